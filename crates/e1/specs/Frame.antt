@@ -1,0 +1,30 @@
+-- Frames of G.704. A frame is 256 bits, 32 slots of 8; a multiframe is 16 frames, numbered 0 to 15; q is the place of a frame's bit 0.
+use Prim.Native.Nat.{ℕ, _+_, _*_, _%_}
+use mathlib.Core.Bool.{Bool}
+use mathlib.Core.List.{List, [], _∷_}
+use lib.Dec.{eqb}
+use Rattle.line.specs.Bit.{field}
+
+-- the place of frame f, numbered from the frame at q
+abbrev pub frame : ℕ → ℕ → ℕ
+frame q f = q + 256 * f
+
+-- the place of slot j of that frame
+abbrev pub slot : ℕ → ℕ → ℕ → ℕ
+slot q f j = frame q f + 8 * j
+
+-- the alignment word 0011011 in bits 2 to 8 of the frame at q
+abbrev pub wordAt : List ℕ → ℕ → Bool
+wordAt s q = eqb (field s (q + 1) 7) 27
+
+-- the multiframe signal: bit 1 of frames 1, 3, 5, 7, 9, 11
+abbrev pub signal : List ℕ
+signal = 0 ∷ 0 ∷ 1 ∷ 0 ∷ 1 ∷ 1 ∷ []
+
+-- slot 0 of an even frame: a check bit, then the word
+abbrev pub evenSlot0 : ℕ → ℕ
+evenSlot0 c = 128 * c + 27
+
+-- slot 0 of an odd frame: bit 1, then 1, then A and Sa4 to Sa8, the low six bits of x
+abbrev pub oddSlot0 : ℕ → ℕ → ℕ
+oddSlot0 b x = 128 * b + 64 + x % 64

@@ -1,0 +1,41 @@
+-- The laws of blocks and of the payload's order that the crates above cite.
+use Prim.Native.Nat.{ℕ, zero, suc, _+_, _-_, _*_, _/_, _%_, _^_, _≤_, _<_}
+use mathlib.Core.Path.{_≡_, refl, sym, ap, ap₂, _∙_}
+use mathlib.Core.Bool.{Bool, true, false, cond}
+use mathlib.Core.List.{List}
+use native.Mathlib.Omega.{arith}
+use lib.Dec.{lit<, lit≤}
+use lib.ListN.{length, getD}
+use Rattle.line.specs.Bit.{bitAt}
+use Rattle.line.specs.Tab.{tab}
+use Rattle.line.specs.TabLaws.{length-tab, getD-tab}
+use Rattle.line.specs.BitLaws.{bit-lt}
+use Rattle.e1.specs.Block.{isCheckPlace, blockBit, blockBits}
+use Rattle.e1.specs.Payload.{indexOf, frameOf, slotOf}
+
+-- the payload's order, there and back
+pub frame-of-index : (f j : ℕ) → 1 ≤ j → j ≤ 31 → frameOf (indexOf f j) ≡ f
+frame-of-index f j h k = omega arith
+
+pub slot-of-index : (f j : ℕ) → 1 ≤ j → j ≤ 31 → slotOf (indexOf f j) ≡ j
+slot-of-index f j h k = omega arith
+
+pub index-of : (i : ℕ) → indexOf (frameOf i) (slotOf i) ≡ i
+index-of i = omega arith
+
+-- a block's bits
+cond-lt : (c : Bool) (x : ℕ) → x < 2 → cond c 0 x < 2
+cond-lt true x h = lit< tt
+cond-lt false x h = h
+
+pub block-bit-lt : (s : List ℕ) (q i : ℕ) → blockBit s q i < 2
+unfolding blockBit
+block-bit-lt s q i = cond-lt (isCheckPlace i) (bitAt s (q + i)) (bit-lt s (q + i))
+
+pub block-length : (s : List ℕ) (q : ℕ) → length (blockBits s q) ≡ 2048
+unfolding blockBits
+block-length s q = length-tab 2048 (blockBit s q)
+
+pub block-at : (s : List ℕ) (q i : ℕ) → i < 2048 → getD (blockBits s q) i 0 ≡ blockBit s q i
+unfolding blockBits
+block-at s q i h = getD-tab 2048 (blockBit s q) i 0 h

@@ -1,0 +1,5 @@
+pub mod Frame
+pub mod Block
+pub mod Payload
+pub mod Answer
+pub mod Laws

@@ -1,0 +1,109 @@
+-- The laws of bits and fields, and of an octet taken by shifts and masks.
+use Prim.Native.Nat.{ℕ, zero, suc, _+_, _-_, _*_, _/_, _%_, _^_, _<_}
+use mathlib.Core.Path.{_≡_, refl, sym, _∙_, ap}
+use mathlib.Core.List.{List}
+use native.Mathlib.Nat.{add-zero, add-suc, add-assoc, pow-suc, mul-assoc, mod-one, mul-mod-left}
+use native.Mathlib.Numerals.{add-one}
+use native.Mathlib.Omega.{arith}
+use lib.Bits.{bitAnd, bitOr, and-mask, or-shifted}
+use lib.ListN.{getD}
+use lib.Pow.{high, shr-shr, mod-pow-add, shl-shr, shr-mod, shr-lt}
+use Rattle.line.specs.Tab.{tab}
+use Rattle.line.specs.TabLaws.{getD-tab, tab-agree}
+use Rattle.line.specs.Bit.{bitAt, field, octetAt, octetBits}
+
+pub bit-lt : (s : List ℕ) (p : ℕ) → bitAt s p < 2
+unfolding bitAt
+bit-lt s p = omega arith
+
+pub field-lt : (s : List ℕ) (p n : ℕ) → field s p n < 2 ^ n
+unfolding field
+field-lt s p zero = omega arith
+field-lt s p (suc n) = rw pow-suc (omega (arith, field-lt s p n, bit-lt s (p + n)))
+
+-- n + m bits: the first n, and then m
+pub field-add : (s : List ℕ) (p n m : ℕ) → field s p (n + m) ≡ field s p n * 2 ^ m + field s (p + n) m
+unfolding field
+field-add s p n zero = rw add-zero (omega arith)
+field-add s p n (suc m) =
+    rw (add-suc n m, field-add s p n m, ← add-assoc p n m, pow-suc 2 m)
+    (omega (arith, mul-assoc (field s p n) (2 ^ m) 2))
+
+-- the bit o of the octet q
+pub bit-in : (s : List ℕ) (q o : ℕ) → o < 8 → bitAt s (8 * q + o) ≡ getD s q 0 / 2 ^ (7 - o) % 2
+unfolding bitAt
+bit-in s q o h =
+    let a : (8 * q + o) / 8 ≡ q = omega arith in
+    let b : (8 * q + o) % 8 ≡ o = omega arith in
+    rw (a, b)
+
+-- n bits within the octet q, of which m follow
+pub field-in : (s : List ℕ) (q o n m : ℕ) → o + n + m ≡ 8 → field s (8 * q + o) n ≡ getD s q 0 / 2 ^ m % 2 ^ n
+unfolding field
+field-in s q o zero m h = sym (mod-one _)
+field-in s q o (suc n) m h =
+    let e : 7 - (o + n) ≡ m = omega arith in
+    rw (field-in s q o n (suc m) (omega arith), add-assoc (8 * q) o n, bit-in s q (o + n) (omega arith), e, ← add-one m, ← add-one n, mod-pow-add (getD s q 0 / 2 ^ m) n 1, shr-shr (getD s q 0) m 1)
+    (omega arith)
+
+-- an octet at place o of the octet q: the low bits of q, and the high bits of the next
+pub octet-two : (s : List ℕ) (q o k : ℕ) → o + k ≡ 8 → getD s (q + 1) 0 < 2 ^ 8
+    → octetAt s (8 * q + o) ≡ getD s q 0 % 2 ^ k * 2 ^ o + getD s (q + 1) 0 / 2 ^ k
+octet-two s q o k e h =
+    let z : k + o ≡ 8 = omega arith in
+    let next : 8 * q + o + k ≡ 8 * (q + 1) + 0 = omega arith in
+    let whole : getD s q 0 / 2 ^ 0 ≡ getD s q 0 = omega arith in
+    let add : field s (8 * q + o) (k + o) ≡ field s (8 * q + o) k * 2 ^ o + field s (8 * q + o + k) o = field-add s (8 * q + o) k o in
+    let lt : getD s (q + 1) 0 < 2 ^ (o + k) = rw e h in
+    ap (field s (8 * q + o)) (sym z) ∙ add
+    ∙ rw (next, field-in s q o k 0 (omega arith), field-in s (q + 1) 0 o k (omega arith), whole, shr-mod o k lt)
+
+-- the same by shifts of octets
+pub octet-shifts : (s : List ℕ) (p : ℕ) → getD s (p / 8 + 1) 0 < 2 ^ 8
+    → bitOr (getD s (p / 8) 0 * 2 ^ bitAnd p 7 % 256) (getD s (p / 8 + 1) 0 / 2 ^ (8 - bitAnd p 7)) ≡ octetAt s p
+octet-shifts s p h = rw (and-mask p 3) (go (p / 8) (p % 8) (8 - p % 8) (omega arith) h ∙ ap (octetAt s) (omega arith))
+  where
+    go : (q o k : ℕ) → o + k ≡ 8 → getD s (q + 1) 0 < 2 ^ 8
+        → bitOr (getD s q 0 * 2 ^ o % 256) (getD s (q + 1) 0 / 2 ^ k) ≡ octetAt s (8 * q + o)
+    go q o k e h =
+        let x = getD s q 0 in
+        let y = getD s (q + 1) 0 in
+        let z : k + o ≡ 8 = omega arith in
+        let low : x * 2 ^ o % 2 ^ (k + o) ≡ x % 2 ^ k * 2 ^ o = mod-pow-add (x * 2 ^ o) k o ∙ rw (shl-shr x o, mul-mod-left x (2 ^ o)) (add-zero _) in
+        let low8 : x * 2 ^ o % 2 ^ 8 ≡ x % 2 ^ k * 2 ^ o = rw z at low in
+        let lt : y < 2 ^ (o + k) = rw e h in
+        rw (low8, octet-two s q o k e h) (or-shifted (x % 2 ^ k) o (y / 2 ^ k) (shr-lt o k lt))
+
+-- an octet that lies in one
+pub octet-one : (s : List ℕ) (p : ℕ) → bitAnd p 7 ≡ 0 → getD s (p / 8) 0 < 2 ^ 8 → getD s (p / 8) 0 ≡ octetAt s p
+octet-one s p e h =
+    let z : p % 8 ≡ 0 = sym (and-mask p 3) ∙ e in
+    let here : 8 * (p / 8) + 0 ≡ p = omega arith in
+    let f : field s (8 * (p / 8) + 0) 8 ≡ getD s (p / 8) 0 / 2 ^ 0 % 2 ^ 8 = field-in s (p / 8) 0 8 0 refl in
+    let g : octetAt s p ≡ getD s (p / 8) 0 / 2 ^ 0 % 2 ^ 8 = rw here at f in
+    omega arith
+
+-- the last seven bits of an octet
+pub word-of : (s : List ℕ) (p : ℕ) → bitAnd (octetAt s p) 127 ≡ field s (p + 1) 7
+unfolding field
+word-of s p = and-mask (octetAt s p) 7 ∙ omega (arith, field-add s p 1 7, field-lt s (p + 1) 7)
+
+-- the bits of a table of octets
+pub bit-tab : (n : ℕ) (f : ℕ → ℕ) (p : ℕ) → p / 8 < n → bitAt (tab n f) p ≡ f (p / 8) / 2 ^ (7 - p % 8) % 2
+unfolding bitAt
+bit-tab n f p h = rw (getD-tab n f (p / 8) 0 h)
+
+last-bit : (s : List ℕ) (p n : ℕ) → field s p (n + 1) % 2 ≡ bitAt s (p + n)
+unfolding field
+last-bit s p n = rw add-one (omega (arith, bit-lt s (p + n)))
+
+-- of n + 1 + m bits the one with m behind it
+pub bit-of-field : (s : List ℕ) (p n m : ℕ) → field s p (n + 1 + m) / 2 ^ m % 2 ≡ bitAt s (p + n)
+bit-of-field s p n m = rw (field-add s p (n + 1) m, high (field s p (n + 1)) m (field-lt s (p + (n + 1)) m)) (last-bit s p n)
+
+-- the bits of an octet of the line
+pub octet-bits : (s : List ℕ) (p : ℕ) → octetBits (octetAt s p) ≡ tab 8 (λ i. bitAt s (p + i))
+unfolding octetBits
+octet-bits s p =
+    tab-agree 8 (λ i. octetAt s p / 2 ^ (7 - i) % 2) (λ i. bitAt s (p + i))
+    (λ i h. let e : i + 1 + (7 - i) ≡ 8 = omega arith in rw (← e) (bit-of-field s p i (7 - i)))

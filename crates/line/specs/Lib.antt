@@ -1,0 +1,5 @@
+pub mod Tab
+pub mod Bit
+pub mod TabLaws
+pub mod BitLaws
+pub mod PartLaws
