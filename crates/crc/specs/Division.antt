@@ -5,11 +5,11 @@ use mathlib.Core.List.{List, [], _∷_, _++_}
 use Prim.Native.Nat.{ℕ, suc, zero, _+_, _-_, _*_, _/_, _%_, _^_, _≤_, _<_}
 use native.Mathlib.Nat.{add-zero, mul-one, zero-mul, one-mul, pow-suc, div-lt-iff-lt-mul, div-eq-of-lt, mul-div-cancel, mul-le-mul-left, mod-lt}
 use native.Mathlib.Omega.{arith}
-use lib.Bits.{bitXor, xor-lt, xor-shr, xor-comm, xor-zero-r, xor-self, xor-block, xor-shifted}
+use lib.Bits.{bitXor, xor-lt, xor-shr, xor-zero-r, xor-self, xor-block, xor-shifted}
 use lib.Dec.{lit<}
 use lib.Pow.{pow-pos, pow-mono, split}
 use Rattle.crc.specs.Remainder.{zeros, step, after, check}
-use Rattle.crc.specs.Xor.{xor-assoc, xor4, xor-cancel, xor-eq, xor-twice}
+use Rattle.crc.specs.Xor.{xor-assoc, xor4, xor-eq, xor-twice}
 use Rattle.crc.specs.Laws.{Bits, zeros-bits, after-lt, check-lt, after-append, step-lt, top}
 
 -- the polynomial of bits, the highest first, after those of v

@@ -1,17 +1,16 @@
 -- The laws of the check, over its width w from 2 on: remainders stay below 2^w, the check is linear in the bits, it sees every burst of
 -- at most w bits, and no hits near a block's end look like one on the first bit of the check that follows.
 use mathlib.Core.Path.{_≡_, refl, sym, ap, ap₂, _∙_, subst}
-use mathlib.Core.Logic.{_≢_, _↔_, Iff·trans}
+use mathlib.Core.Logic.{_≢_, _↔_}
 use mathlib.Core.List.{List, [], _∷_, _++_}
 use Prim.Native.Nat.{ℕ, suc, zero, _+_, _-_, _*_, _/_, _%_, _^_, _≤_, _<_, zero-le, suc-le-suc}
-use native.Mathlib.Nat.{mod-lt, div-lt-iff-lt-mul, mod-eq-of-lt, div-eq-of-lt, suc-inj, suc-ne-zero, le-dest, zero-lt-suc, zero-add, add-zero, mul-one, pow-suc, le-mul-of-pos-right, le-of-eq, one-mul, sub-zero, suc-sub-suc, le-of-suc-le-suc, not-suc-le-zero, div-add-mod'}
-use mathlib.Core.Bool.{Bool, true, false, not, _&&_}
-use lib.Dec.{lit<, lit≤, T, T-not, eqb}
+use native.Mathlib.Nat.{mod-lt, div-lt-iff-lt-mul, mod-eq-of-lt, div-eq-of-lt, suc-inj, suc-ne-zero, le-dest, zero-lt-suc, zero-add, add-zero, mul-one, pow-suc, le-mul-of-pos-right, le-of-eq, one-mul}
+use lib.Dec.{lit<}
 use native.Mathlib.Decide.{ℕ-discrete}
 use lib.Seq.{ext-getD, getD-append-seam}
 use native.Mathlib.Omega.{arith}
 use lib.Bits.{bitXor, xor-lt, xor-shr, xor-mod, xor-zero-r, xor-self}
-use lib.ListN.{length, getD, replicate, length-append, replicate-append-replicate, List·getD-append, List·getD-eq-default}
+use lib.ListN.{length, getD, length-append, List·getD-append, List·getD-eq-default}
 use lib.Pow.{pow-pos, pow-mono, pow-add, pow-lt, split}
 use Rattle.line.specs.Tab.{tab}
 use Rattle.line.specs.TabLaws.{tab-more}

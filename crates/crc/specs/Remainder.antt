@@ -1,6 +1,6 @@
 -- The check of G.704: the remainder by x^w + x + 1, w 4 on E1 and 6 on T1. A remainder is the number whose binary digits are its
 -- coefficients, the highest first, and the sum of two is their exclusive or.
-use Prim.Native.Nat.{ℕ, suc, zero, _+_, _-_, _*_, _/_, _%_, _^_}
+use Prim.Native.Nat.{ℕ, _+_, _*_, _/_, _%_, _^_}
 use mathlib.Core.List.{List, [], _∷_, _++_}
 use lib.Bits.{bitXor}
 use lib.ListN.{replicate}

@@ -1,7 +1,6 @@
 -- `after_zeros` meets its contract: four bits, each 0.
-use mathlib.Core.Path.{_≡_, _∙_, ap}
 use borrow.Author.Needs.{needs}
-use Rattle.crc.specs.Remainder.{step, after}
+use Rattle.crc.specs.Remainder.{after}
 use Rattle.crc.proofs.after_zeros.Statement.{statement}
 use Rattle.crc.proofs.after_zeros.Tie as tie
 
