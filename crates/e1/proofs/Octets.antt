@@ -1,12 +1,9 @@
 -- A block taken octet by octet.
-use Prim.Native.Nat.{ℕ, zero, suc, _+_, _-_, _*_, _/_, _%_, _^_, _≤_, _<_}
-use mathlib.Core.Path.{_≡_, refl, sym, ap, ap₂, _∙_}
-use mathlib.Core.Bool.{true, false, cond}
-use mathlib.Core.List.{List, _++_}
+use Prim.Native.Nat.{ℕ, zero, suc, _+_, _-_, _*_, _/_, _%_, _^_, _<_}
+use mathlib.Core.Path.{_≡_, sym, ap, ap₂, _∙_}
+use mathlib.Core.List.{List}
 use native.Mathlib.Omega.{arith}
-use native.Mathlib.Decide.{ℕ-discrete}
 use borrow.Author.Tests.{eq-eqb, ne-eqb}
-use lib.Dec.{eqb}
 use lib.Pow.{field, mod-mod-pow}
 use Rattle.line.specs.Bit.{bitAt, octetAt, octetBits}
 use Rattle.line.specs.Tab.{tab}
@@ -14,7 +11,7 @@ use Rattle.line.specs.TabLaws.{tab-agree, tab-split}
 use Rattle.line.specs.BitLaws.{octet-bits, bit-of-field}
 use Rattle.crc.specs.Remainder.{zeros, after, check}
 use Rattle.crc.specs.Laws.{after-append}
-use Rattle.e1.specs.Block.{isCheckPlace, blockBit, blockBits, blockCheck}
+use Rattle.e1.specs.Block.{blockBit, blockBits, blockCheck}
 
 data-bit : (s : List ℕ) (q i : ℕ) → (i % 512 ≡ 0 → ⊥) → blockBit s q i ≡ bitAt s (q + i)
 unfolding blockBit

@@ -1,13 +1,12 @@
 -- The laws of blocks and of the payload's order that the crates above cite.
-use Prim.Native.Nat.{ℕ, zero, suc, _+_, _-_, _*_, _/_, _%_, _^_, _≤_, _<_}
-use mathlib.Core.Path.{_≡_, refl, sym, ap, ap₂, _∙_}
+use Prim.Native.Nat.{ℕ, _+_, _-_, _≤_, _<_}
+use mathlib.Core.Path.{_≡_}
 use mathlib.Core.Bool.{Bool, true, false, cond}
 use mathlib.Core.List.{List}
 use native.Mathlib.Omega.{arith}
-use lib.Dec.{lit<, lit≤}
+use lib.Dec.{lit<}
 use lib.ListN.{length, getD}
 use Rattle.line.specs.Bit.{bitAt}
-use Rattle.line.specs.Tab.{tab}
 use Rattle.line.specs.TabLaws.{length-tab, getD-tab}
 use Rattle.line.specs.BitLaws.{bit-lt}
 use Rattle.e1.specs.Block.{isCheckPlace, blockBit, blockBits}

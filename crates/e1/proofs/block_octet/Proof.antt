@@ -1,7 +1,7 @@
 -- `block_octet` meets its contract: the first bit of each second frame is a check place, and no other bit is.
 use Prim.Native.Nat.{_%_}
 use borrow.Author.Needs.{needs}
-use mathlib.Core.Path.{_≡_, _∙_, ap}
+use mathlib.Core.Path.{_∙_, ap}
 use Rattle.line.specs.Bit.{octetBits}
 use Rattle.e1.proofs.Octets.{masked, unmasked}
 use Rattle.e1.proofs.block_octet.Statement.{statement}
