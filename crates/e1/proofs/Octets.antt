@@ -3,7 +3,6 @@ use Prim.Native.Nat.{ℕ, zero, suc, _+_, _-_, _*_, _/_, _%_, _^_, _<_}
 use mathlib.Core.Path.{_≡_, sym, ap, ap₂, _∙_}
 use mathlib.Core.List.{List}
 use native.Mathlib.Omega.{arith}
-use borrow.Author.Tests.{eq-eqb, ne-eqb}
 use lib.Pow.{field, mod-mod-pow}
 use Rattle.line.specs.Bit.{bitAt, octetAt, octetBits}
 use Rattle.line.specs.Tab.{tab}
@@ -11,15 +10,8 @@ use Rattle.line.specs.TabLaws.{tab-agree, tab-split}
 use Rattle.line.specs.BitLaws.{octet-bits, bit-of-field}
 use Rattle.crc.specs.Remainder.{zeros, after, check}
 use Rattle.crc.specs.Laws.{after-append}
+use Rattle.e1.specs.Laws.{data-bit, check-bit}
 use Rattle.e1.specs.Block.{blockBit, blockBits, blockCheck}
-
-data-bit : (s : List ℕ) (q i : ℕ) → (i % 512 ≡ 0 → ⊥) → blockBit s q i ≡ bitAt s (q + i)
-unfolding blockBit
-data-bit s q i n = rw (ne-eqb (i % 512) 0 n)
-
-check-bit : (s : List ℕ) (q i : ℕ) → i % 512 ≡ 0 → blockBit s q i ≡ 0
-unfolding blockBit
-check-bit s q i e = rw (eq-eqb (i % 512) 0 e)
 
 pub unmasked : (s : List ℕ) (q i : ℕ) → (i % 64 ≡ 0 → ⊥) → octetBits (octetAt s (q + 8 * i)) ≡ tab 8 (λ j. blockBit s q (8 * i + j))
 unmasked s q i n =

@@ -1,9 +1,11 @@
 -- The laws of blocks and of the payload's order that the crates above cite.
-use Prim.Native.Nat.{ℕ, _+_, _-_, _≤_, _<_}
+use Prim.Native.Nat.{ℕ, _+_, _%_, _≤_, _<_}
 use mathlib.Core.Path.{_≡_}
+use mathlib.Core.Logic.{_≢_}
 use mathlib.Core.Bool.{Bool, true, false, cond}
 use mathlib.Core.List.{List}
 use native.Mathlib.Omega.{arith}
+use borrow.Author.Tests.{eq-eqb, ne-eqb}
 use lib.Dec.{lit<}
 use lib.ListN.{length, getD}
 use Rattle.line.specs.Bit.{bitAt}
@@ -30,6 +32,14 @@ cond-lt false x h = h
 pub block-bit-lt : (s : List ℕ) (q i : ℕ) → blockBit s q i < 2
 unfolding blockBit
 block-bit-lt s q i = cond-lt (isCheckPlace i) (bitAt s (q + i)) (bit-lt s (q + i))
+
+pub data-bit : (s : List ℕ) (q i : ℕ) → i % 512 ≢ 0 → blockBit s q i ≡ bitAt s (q + i)
+unfolding blockBit
+data-bit s q i n = rw (ne-eqb (i % 512) 0 n)
+
+pub check-bit : (s : List ℕ) (q i : ℕ) → i % 512 ≡ 0 → blockBit s q i ≡ 0
+unfolding blockBit
+check-bit s q i e = rw (eq-eqb (i % 512) 0 e)
 
 pub block-length : (s : List ℕ) (q : ℕ) → length (blockBits s q) ≡ 2048
 unfolding blockBits
