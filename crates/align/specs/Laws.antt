@@ -1,0 +1,188 @@
+-- The place that is worked out is the one that the paper's words name, both ways.
+use Prim.Native.Nat.{ℕ, zero, suc, _+_, _*_, _≤_, _<_}
+use mathlib.Core.Path.{_≡_, refl, sym, ap, ap₂, _∙_}
+use mathlib.Core.Bool.{Bool, true, false, cond, _&&_, _||_, true≢false, and-eq-true-iff, or-true}
+use mathlib.Core.List.{List}
+use mathlib.Core.Logic.{_↔_}
+use mathlib.Core.Option.{Option, none, some, Option·none-ne-some, Option·some-injective}
+use mathlib.Mathlib.Data.Bool.Basic.{eq-false-of-not-eq-true}
+use native.Mathlib.Omega.{arith}
+use borrow.Author.Tests.{leb-true, le-leb, eqb-true, eq-eqb}
+use lib.Dec.{eqb, leb}
+use lib.ListN.{length, getD}
+use Rattle.line.specs.Bit.{bitAt, field}
+use Rattle.line.specs.Tab.{least}
+use Rattle.line.specs.TabLaws.{all-at, at-all, least-some, first-some, first-none, none-first, some-first}
+use Rattle.e1.specs.Frame.{wordAt, signal}
+use Rattle.align.specs.Place.{basic, mark, signalAt, againAt, pairAt, Standing, withPlace, standing, firstStanding, found}
+use Rattle.align.specs.Stands.{Basic, Signal, Pair, Stands, StandsFirst}
+use Rattle.align.specs.declared.Found.the-variants.{At, Nothing}
+
+-- a test that says when P holds, and fails
+pub denies : {b : Bool} {P : Type 0} → (b ≡ true ↔ P) → b ≡ false → P → ⊥
+denies h e p = true≢false (sym (h .1 p) ∙ e)
+
+-- one of j = 1, 2, 3 passes
+some-j-passes : (t : ℕ → Bool) → t 1 || (t 2 || t 3) ≡ true ↔ ((j : ℕ) × (1 ≤ j) × (j ≤ 3) × (t j ≡ true))
+some-j-passes t = (there (t 1) (t 2) refl refl, λ h. back (h .0) (h .1) (h .2) (h .3))
+  where
+    there : (a b : Bool) → t 1 ≡ a → t 2 ≡ b → a || (b || t 3) ≡ true → (j : ℕ) × (1 ≤ j) × (j ≤ 3) × (t j ≡ true)
+    there true b p q e = (1, omega arith, omega arith, p)
+    there false true p q e = (2, omega arith, omega arith, q)
+    there false false p q e = (3, omega arith, omega arith, e)
+
+    back : (j : ℕ) → 1 ≤ j → j ≤ 3 → t j ≡ true → t 1 || (t 2 || t 3) ≡ true
+    back zero h g e = absurd (omega arith)
+    back (suc zero) h g e = rw e
+    back (suc (suc zero)) h g e = rw e (or-true (t 1))
+    back (suc (suc (suc zero))) h g e = rw (e, or-true (t 2)) (or-true (t 1))
+    back (suc (suc (suc (suc j)))) h g e = absurd (omega arith)
+
+module _ (s : List ℕ) (p : ℕ) where
+  pub basic-holds : basic s p ≡ true ↔ Basic s p
+  unfolding basic
+  basic-holds = (there, back)
+    where
+      next : p + 512 + 1 ≡ p + 513
+      next = omega arith
+
+      there : basic s p ≡ true → Basic s p
+      there e =
+          let a = and-eq-true-iff (wordAt s p) (eqb (bitAt s (p + 257)) 1 && wordAt s (p + 512)) .0 e in
+          let b = and-eq-true-iff (eqb (bitAt s (p + 257)) 1) (wordAt s (p + 512)) .0 (a .1) in
+          record { word = eqb-true _ _ (a .0); bit-2 = eqb-true _ _ (b .0); word-again = rw next at (eqb-true (field s (p + 512 + 1) 7) 27 (b .1)) }
+
+      back : Basic s p → basic s p ≡ true
+      back h = rw (next, eq-eqb _ _ (h .word), eq-eqb _ _ (h .bit-2), eq-eqb _ _ (h .word-again))
+
+  pub signal-holds : (k : ℕ) → signalAt s p k ≡ true ↔ Signal s p k
+  unfolding signalAt
+  signal-holds k =
+      let t : ℕ → Bool = λ i. eqb (mark s p (k + i)) (getD signal i 0) in
+      (λ e i h. eqb-true _ _ (all-at 6 t e i h), λ h. at-all 6 t (λ i l. eq-eqb _ _ (h i l)))
+
+  pub pair-holds : (k : ℕ) → pairAt s p k ≡ true ↔ Pair s p k
+  unfolding pairAt
+  pair-holds k = (there, back)
+    where
+      there : pairAt s p k ≡ true → Pair s p k
+      there e =
+          let a = and-eq-true-iff (signalAt s p k) (againAt s p k 1 || (againAt s p k 2 || againAt s p k 3)) .0 e in
+          let b = some-j-passes (againAt s p k) .0 (a .1) in
+          let j = b .0 in
+          let d = and-eq-true-iff (leb (k + 8 * j + 5) 31) (signalAt s p (k + 8 * j)) .0 (b .3) in
+          record {
+            here = signal-holds k .0 (a .0);
+            j = j;
+            least-j = b .1;
+            most-j = b .2;
+            within = leb-true _ _ (d .0);
+            again = signal-holds (k + 8 * j) .0 (d .1);
+          }
+
+      back : Pair s p k → pairAt s p k ≡ true
+      back h =
+          let j = h .j in
+          let a : againAt s p k j ≡ true = rw (le-leb _ _ (h .within)) (signal-holds (k + 8 * j) .1 (h .again)) in
+          rw (signal-holds k .1 (h .here)) (some-j-passes (againAt s p k) .1 (j, h .least-j, h .most-j, a))
+
+  -- no pair begins past 18
+  pub pair-below : (k : ℕ) → Pair s p k → k < 19
+  pair-below k h = omega arith
+
+  -- what `standing` is worked out from
+  from-cond : (b : Bool) (o : Option ℕ) (w : Standing) → cond b (withPlace p o) none ≡ some w → (b ≡ true) × (o ≡ some (w .k)) × (w .place ≡ p)
+  from-cond false o w e = absurd (Option·none-ne-some w e)
+  from-cond true none w e = absurd (Option·none-ne-some w e)
+  from-cond true (some k) w e =
+      let q = Option·some-injective _ _ e in
+      (refl, ap (λ (x : Standing). some (x .k)) q, sym (ap (λ (x : Standing). x .place) q))
+
+  some-stands : (w : Standing) → standing s p ≡ some w → (w .place ≡ p) × Stands s p (w .k)
+  unfolding standing
+  some-stands w e =
+      let a = from-cond (leb (p + 16384) (8 * length s) && basic s p) (least 32 (pairAt s p)) w e in
+      let b = and-eq-true-iff (leb (p + 16384) (8 * length s)) (basic s p) .0 (a .0) in
+      let l = least-some 32 (pairAt s p) (w .k) .0 (a .1) in (
+        a .2,
+        record {
+          room = leb-true _ _ (b .0);
+          basic = basic-holds .0 (b .1);
+          pair = pair-holds (w .k) .0 (l .passes);
+          least = λ j h. denies (pair-holds j) (l .before j h);
+        },
+      )
+
+  pub stands-here : (k : ℕ) → standing s p ≡ some (record { place = p; k = k }) ↔ Stands s p k
+  unfolding standing
+  stands-here k = (λ e. some-stands (record { place = p; k = k }) e .1, back)
+    where
+      back : Stands s p k → standing s p ≡ some (record { place = p; k = k })
+      back h =
+          let l : least 32 (pairAt s p) ≡ some k = least-some 32 (pairAt s p) k .1 (record {
+            below = omega (arith, pair-below k (h .pair));
+            passes = pair-holds k .1 (h .pair);
+            before = λ j g. eq-false-of-not-eq-true (λ e. h .least j g (pair-holds j .0 e));
+          }) in
+          rw (le-leb _ _ (h .room), basic-holds .1 (h .basic), l)
+
+  none-here : ((k : ℕ) → Stands s p k → ⊥) → standing s p ≡ none
+  none-here h = go (standing s p) refl
+    where
+      go : (o : Option Standing) → standing s p ≡ o → o ≡ none
+      go none e = refl
+      go (some w) e = absurd (h (w .k) (some-stands w e .1))
+
+module _ (s : List ℕ) where
+  -- the place and the k that are worked out are those of the first place that stands
+  pub first-stands : (p k : ℕ) → firstStanding s ≡ some (record { place = p; k = k }) ↔ StandsFirst s p k
+  unfolding firstStanding
+  first-stands p k = (there, back)
+    where
+      there : firstStanding s ≡ some (record { place = p; k = k }) → StandsFirst s p k
+      there e =
+          let w = first-some (8 * length s) (standing s) (record { place = p; k = k }) e in
+          let a = some-stands s (w .0) (record { place = p; k = k }) (w .2) in
+          record {
+            stands = rw (a .0) (a .1);
+            before = λ q l h g. Option·none-ne-some _ (sym (w .3 q (omega arith)) ∙ stands-here s q l .1 g);
+          }
+
+      back : StandsFirst s p k → firstStanding s ≡ some (record { place = p; k = k })
+      back h =
+          some-first (8 * length s) p (standing s) (record { place = p; k = k })
+          (omega (arith, h .stands .room))
+          (none-first p (standing s) (λ q g. none-here s q (λ l. h .before q l g)))
+          (stands-here s p k .1 (h .stands))
+
+  -- and there is none exactly if no place stands
+  pub none-stands : firstStanding s ≡ none ↔ ((p k : ℕ) → Stands s p k → ⊥)
+  unfolding firstStanding
+  none-stands = (there, back)
+    where
+      there : firstStanding s ≡ none → (p k : ℕ) → Stands s p k → ⊥
+      there e p k h = Option·none-ne-some _ (sym (first-none (8 * length s) (standing s) e p (omega (arith, h .room))) ∙ stands-here s p k .1 h)
+
+      back : ((p k : ℕ) → Stands s p k → ⊥) → firstStanding s ≡ none
+      back h = none-first (8 * length s) (standing s) (λ p l. none-here s p (h p))
+
+  -- so it is one place and one k
+  pub stands-single : (p q k l : ℕ) → StandsFirst s p k → StandsFirst s q l → (p ≡ q) × (k ≡ l)
+  stands-single p q k l h g =
+      let e = Option·some-injective _ _ (sym (first-stands p k .1 h) ∙ first-stands q l .1 g) in
+      (ap (λ (x : Standing). x .place) e, ap (λ (x : Standing). x .k) e)
+
+-- what the search answers
+pub found-at : (o : Option Standing) (p k : ℕ) → found o ≡ At p k → o ≡ some (record { place = p; k = k })
+found-at (some w) p k e = ap₂ (λ a b. some (record { place = a; k = b })) (cc) (cc)
+found-at none p k e = let z : _≡_ {A = ℕ} 0 1 = cc in absurd (omega arith)
+
+pub found-nothing : (o : Option Standing) → found o ≡ Nothing → o ≡ none
+found-nothing (some w) e = let z : _≡_ {A = ℕ} 0 1 = cc in absurd (omega arith)
+found-nothing none e = refl
+
+-- the bits from the place on are there, and k is at most 18
+pub first-within : (s : List ℕ) (p k : ℕ) → firstStanding s ≡ some (record { place = p; k = k }) → (p + 16384 ≤ 8 * length s) × (k < 19)
+first-within s p k e =
+    let h = first-stands s p k .0 e .stands in
+    (h .room, pair-below s p k (h .pair))
