@@ -1,0 +1,7 @@
+-- `overhead_limit` meets its contract.
+use borrow.Author.Tests.{lt-ltb, le-ltb}
+use Rattle.write.proofs.overhead_limit.Statement.{statement}
+use Rattle.write.proofs.overhead_limit.Tie as tie
+
+pub overhead-limit-spec : {M : Type 1} → statement M
+overhead-limit-spec = tie.close (tie.spec (λ c. simp (lt-ltb _ _ (c .if1 .taken))) (λ c. simp (le-ltb _ _ (c .if1 .left))))
