@@ -1,0 +1,4 @@
+pub mod Slots
+pub mod Words
+pub mod Counts
+pub mod Measures

@@ -1,0 +1,261 @@
+// Reading an image from the first place that stands.
+ghost use mathlib.Core.Path.{_≡_};
+ghost use mathlib.Core.List.{_++_};
+ghost use mathlib.Core.Option.{some};
+ghost use Prim.Native.Nat.{_+_, _*_, _^_, _<_, _≤_};
+ghost use lib.ListN.{length, drop};
+ghost use Rattle.line.specs.Bit.{Room, octetAt};
+ghost use Rattle.line.specs.Tab.{tab};
+ghost use Rattle.align.specs.Place.{firstStanding};
+ghost use Rattle.read.specs.Reading.{wrong, loss, lostAt, usedOf, slots, payloadOf, slot0Of, wordErrors, compared, errored, zerosE, farEnd};
+ghost use Rattle.read.specs.Entry.{Read};
+ghost use Rattle.read.specs.EntryLaws.{GoodLength, refuse};
+
+// What is read: the number is 0, or the refusal's with zeros beside it.
+pub struct Reading {
+    pub number: u64,
+    pub place: usize,
+    pub start: usize,
+    pub whole: usize,
+    pub used: usize,
+    pub lost: usize,
+    pub words: usize,
+    pub compared: usize,
+    pub errored: usize,
+    pub farend: usize,
+}
+
+// What the alignment words tell.
+struct Tracked {
+    lost: usize,
+    used: usize,
+    words: usize,
+}
+
+// What the checks and the E bits tell.
+struct Judged {
+    compared: usize,
+    errored: usize,
+    farend: usize,
+}
+
+// the word of the even frame 2i is wrong
+fn is_wrong(s: &[u8], q: usize, i: usize) -> bool
+    requires { ⌜ Room (now s) q (512 * i + 8) ⌝ }
+    ensures { λ r. ⌜ r ≡ wrong (now (s .entry)) q i ⌝ }
+{
+    !e1::is_word(s, q + 256 * (2 * i))
+}
+
+// the loss in m multiframes, those used, and their wrong words; each word is judged once
+fn track(s: &[u8], q: usize, m: usize) -> Tracked
+    requires { ⌜ Room (now s) q (4096 * m) ⌝ }
+    ensures { λ r. ⌜ (r .lost ≡ lostAt (loss (now (s .entry)) q m))
+        × (r .used ≡ usedOf (loss (now (s .entry)) q m) m)
+        × (r .words ≡ wordErrors (now (s .entry)) q (r .used)) ⌝ }
+{
+    let mut earlier = false;
+    let mut last = false;
+    let mut n: usize = 0;
+    let mut words: usize = 0;
+    for i in 0..8 * m {
+        let this = is_wrong(s, q, i);
+        if earlier & (last & this) {
+            return Tracked {
+                lost: 2 * i,
+                used: i / 8,
+                words: words,
+            };
+        }
+        if this {
+            n += 1;
+        }
+        if i % 8 == 7 {
+            words = n;
+        }
+        earlier = last;
+        last = this;
+    }
+    Tracked {
+        lost: 0,
+        used: m,
+        words: words,
+    }
+}
+
+// 31 octets from octet i on
+fn straight(s: &[u8], i: usize, out: &mut [u8])
+    requires { ⌜ (i + 31 ≤ length (now s)) × (length (now out) ≡ 31) ⌝ }
+    ensures { λ _. ⌜ now (out .exit) ≡ tab 31 (λ j. octetAt (now (s .entry)) (8 * (i + j))) ⌝ }
+{
+    for j in 0..31 {
+        out[j] = s[i + j];
+    }
+}
+
+// 31 octets from bit o of octet i on
+fn shifted(s: &[u8], i: usize, o: usize, out: &mut [u8])
+    requires { ⌜ (i + 32 ≤ length (now s)) × (1 ≤ o) × (o < 8) × (length (now out) ≡ 31) ⌝ }
+    ensures { λ _. ⌜ now (out .exit) ≡ tab 31 (λ j. octetAt (now (s .entry)) (8 * (i + j) + o)) ⌝ }
+{
+    let c = 8 - o;
+    for j in 0..31 {
+        out[j] = (s[i + j] << o) | (s[i + j + 1] >> c);
+    }
+}
+
+// slots 1 to 31 of the frame at q
+fn frame(s: &[u8], q: usize, out: &mut [u8])
+    requires { ⌜ Room (now s) q 256 × (length (now out) ≡ 31) ⌝ }
+    ensures { λ _. ⌜ now (out .exit) ≡ slots (now (s .entry)) q 1 ⌝ }
+{
+    let i = (q >> 3) + 1;
+    let o = q & 7;
+    if o == 0 {
+        straight(s, i, out);
+    } else {
+        shifted(s, i, o, out);
+    }
+}
+
+// the frames of the multiframe at q, each to its part of the output
+fn multiframe(s: &[u8], q: usize, out: &mut [u8])
+    requires { ⌜ Room (now s) q 4096 × (length (now out) ≡ 496) ⌝ }
+    ensures { λ _. ⌜ now (out .exit) ≡ slots (now (s .entry)) q 16 ⌝ }
+{
+    for f in 0..16 {
+        let a = 31 * f;
+        frame(s, q + 256 * f, &mut out[a..a + 31]);
+    }
+}
+
+// the payload of g multiframes, each to its part of the output
+fn payload_of(s: &[u8], q: usize, g: usize, out: &mut [u8])
+    requires { ⌜ Room (now s) q (4096 * g) × (496 * g ≤ length (now out)) ⌝ }
+    ensures { λ _. ⌜ now (out .exit) ≡ payloadOf (now (s .entry)) q g ++ drop (496 * g) (now (out .entry)) ⌝ }
+{
+    for m in 0..g {
+        let a = 496 * m;
+        multiframe(s, q + 256 * (16 * m), &mut out[a..a + 496]);
+    }
+}
+
+// the slots 0 of g multiframes
+fn slot0_of(s: &[u8], q: usize, g: usize, out: &mut [u8])
+    requires { ⌜ Room (now s) q (4096 * g) × (16 * g ≤ length (now out)) ⌝ }
+    ensures { λ _. ⌜ now (out .exit) ≡ slot0Of (now (s .entry)) q g ++ drop (16 * g) (now (out .entry)) ⌝ }
+{
+    for f in 0..16 * g {
+        let v = line::octet(s, q + 256 * f);
+        out[f] = v;
+    }
+}
+
+// the blocks compared of g multiframes
+fn compared(g: usize) -> usize
+    requires { ⌜ g < 2 ^ 60 ⌝ }
+    ensures { λ r. ⌜ r ≡ compared g ⌝ }
+{
+    if g == 0 {
+        return 0;
+    }
+    2 * g - 1
+}
+
+// the E bits of multiframe m that are 0
+fn zeros_e(s: &[u8], q: usize, m: usize) -> usize
+    requires { ⌜ Room (now s) q (4096 * m + 4096) ⌝ }
+    ensures { λ r. ⌜ (r ≡ zerosE (now (s .entry)) q m) × (r ≤ 2) ⌝ }
+{
+    let a = line::bit(s, q + 256 * (16 * m + 13));
+    let b = line::bit(s, q + 256 * (16 * m + 15));
+    ((1 - a) + (1 - b)) as usize
+}
+
+// the blocks compared, those that differ, and the E bits that count; each check is taken once
+fn judge(s: &[u8], q: usize, g: usize) -> Judged
+    requires { ⌜ Room (now s) q (4096 * g) ⌝ }
+    ensures { λ r. ⌜ (r .compared ≡ compared g)
+        × (r .errored ≡ errored (now (s .entry)) q g)
+        × (r .farend ≡ farEnd (now (s .entry)) q g) ⌝ }
+{
+    let n = compared(g);
+    let mut errored: usize = 0;
+    let mut farend: usize = 0;
+    for b in 0..n {
+        if !e1::agrees(s, q + 2048 * b) {
+            errored += 1;
+        } else if b % 2 == 1 {
+            farend += zeros_e(s, q, b / 2);
+        }
+    }
+    Judged {
+        compared: n,
+        errored: errored,
+        farend: farend,
+    }
+}
+
+// a refusal: zeros beside the number
+fn refused(number: u64) -> Reading
+    ensures { λ r. ⌜ r ≡ refuse number ⌝ }
+{
+    Reading {
+        number: number,
+        place: 0,
+        start: 0,
+        whole: 0,
+        used: 0,
+        lost: 0,
+        words: 0,
+        compared: 0,
+        errored: 0,
+        farend: 0,
+    }
+}
+
+// from the first place that stands, with its least k
+fn read_from(image: &[u8], place: usize, k: usize, payload: &mut [u8], slot0: &mut [u8]) -> Reading
+    requires { ⌜ GoodLength (now image) × (firstStanding (now image) ≡ some (record { place = place; k = k })) ⌝ }
+    ensures { λ r. ⌜ Read (now (image .entry)) (now (payload .entry)) (now (slot0 .entry)) r (now (payload .exit)) (now (slot0 .exit)) ⌝ }
+{
+    let start = place + 512 * k;
+    let whole = (8 * image.len() - start) / 4096;
+    let tracked = track(image, start, whole);
+    let used = tracked.used;
+    if (payload.len() < 496 * used) | (slot0.len() < 16 * used) {
+        return refused(4);
+    }
+    payload_of(image, start, used, payload);
+    slot0_of(image, start, used, slot0);
+    let judged = judge(image, start, used);
+    Reading {
+        number: 0,
+        place: place,
+        start: start,
+        whole: whole,
+        used: used,
+        lost: tracked.lost,
+        words: tracked.words,
+        compared: judged.compared,
+        errored: judged.errored,
+        farend: judged.farend,
+    }
+}
+
+// An image is read: its payload and its slots 0 go to the two outputs.
+pub fn read(image: &[u8], payload: &mut [u8], slot0: &mut [u8]) -> Reading
+    ensures { λ r. ⌜ Read (now (image .entry)) (now (payload .entry)) (now (slot0 .entry)) r (now (payload .exit)) (now (slot0 .exit)) ⌝ }
+{
+    if image.len() < 2048 {
+        return refused(1);
+    }
+    if 8192 < image.len() {
+        return refused(2);
+    }
+    let found = align::find(image);
+    match found {
+        align::Found::At { place, k } => read_from(image, place, k, payload, slot0),
+        align::Found::Nothing => refused(3),
+    }
+}
