@@ -1,0 +1,69 @@
+-- A payload's frames, mapped part by part.
+use Prim.Native.Nat.{ℕ, _+_, _-_, _*_, _/_, _%_, _≤_}
+use mathlib.Core.Path.{_≡_, refl, sym, ap, ap₂, _∙_}
+use mathlib.Core.Bool.{true}
+use mathlib.Core.List.{List, _++_, append-assoc}
+use native.Mathlib.Omega.{arith}
+use lib.ListN.{length, take, drop, length-append, length-drop}
+use lib.Seq.{take-at, drop-at, drop-drop, take-add, take-length, length-take-le}
+use lib.Dec.{eqb}
+use borrow.Author.Tests.{eqb-true}
+use Rattle.line.specs.Tab.{tabFrom}
+use Rattle.e1.specs.Payload.{sized}
+use Rattle.exchange.specs.Laws.{both, refused-mapping}
+use Rattle.exchange.specs.Mapping.{mappedPayload, mapNumber, mapped, Mapped}
+use Rattle.exchange.specs.MapLaws.{mapped-length, mapped-append, accepted-mapping}
+
+-- the output where its first n octets are p and the rest is d's: the next k are put in as q
+graft : (p d q : List ℕ) (n k : ℕ) → length p ≡ n
+    → take n (p ++ drop n d) ++ (q ++ drop k (drop n (p ++ drop n d))) ≡ (p ++ q) ++ drop (n + k) d
+graft p d q n k e = rw (take-at p (drop n d) n e, drop-at p (drop n d) n e, drop-drop, append-assoc)
+
+module _ (m p d : List ℕ) where
+  -- the output when k frames are mapped
+  abbrev pub done : ℕ → List ℕ
+  done k = mappedPayload m (take (31 * k) p) ++ drop (31 * k) d
+
+  module _ (k : ℕ) (more : 31 * k + 31 ≤ length p) where
+    long : length (mappedPayload m (take (31 * k) p)) ≡ 31 * k
+    long = mapped-length m (take (31 * k) p) ∙ length-take-le (31 * k) p (omega arith)
+
+    pub done-more : (o q : List ℕ) → o ≡ done k → q ≡ mappedPayload m (take (31 * k + 31 - 31 * k) (drop (31 * k) p))
+        → take (31 * k) o ++ (q ++ drop (31 * k + 31 - 31 * k) (drop (31 * k) o)) ≡ done (k + 1)
+    done-more o q e h =
+        let w : 31 * k + 31 - 31 * k ≡ 31 = omega arith in
+        let n : 31 * k + 31 ≡ 31 * (k + 1) = omega arith in
+        rw (h, e, w, graft (mappedPayload m (take (31 * k) p)) d (mappedPayload m (take 31 (drop (31 * k) p))) (31 * k) 31 long)
+        (ap₂ (λ x y. x ++ y)
+        (sym (mapped-append m (take (31 * k) p) (take 31 (drop (31 * k) p)) k (length-take-le (31 * k) p (omega arith)))
+        ∙ ap (mappedPayload m) (sym (take-add (31 * k) 31 p) ∙ ap (λ i. take i p) n))
+        (ap (λ i. drop i d) n))
+
+  pub done-none : d ≡ done 0
+  unfolding mappedPayload tabFrom
+  done-none = refl
+
+  pub done-length : (k : ℕ) → 31 * k ≤ length p → 31 * k ≤ length d → length (done k) ≡ length d
+  done-length k h l =
+      length-append (mappedPayload m (take (31 * k) p)) (drop (31 * k) d)
+      ∙ ap₂ (λ a b. a + b) (mapped-length m (take (31 * k) p) ∙ length-take-le (31 * k) p h) (length-drop (31 * k) d)
+      ∙ omega arith
+
+  -- the contract, of a refused call and of all frames
+  pub refused : (n : ℕ) → (n ≡ 0 → ⊥) → n ≡ mapNumber p d → Mapped m p d n d
+  refused n h e = record { its-number = e; its-out = sym (refused-mapping m p d (λ z. h (e ∙ z))) }
+
+  pub all-done : (o : List ℕ) (k : ℕ) → 31 * k ≡ length p → o ≡ done k → 0 ≡ mapNumber p d → Mapped m p d 0 o
+  all-done o k h e z =
+      record {
+        its-number = z;
+        its-out =
+            e
+            ∙ rw h (ap (λ l. mappedPayload m l ++ drop (length p) d) (take-length p))
+            ∙ sym (accepted-mapping m p d (sym z));
+      }
+
+-- a payload of the right size is whole frames
+pub whole-frames : (n : ℕ) → sized n ≡ true → 31 * (n / 31) ≡ n
+unfolding sized
+whole-frames n e = let r = eqb-true (n % 496) 0 (both (eqb (n % 496) 0) _ e .0) in omega arith

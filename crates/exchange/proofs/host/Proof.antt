@@ -1,0 +1,27 @@
+-- `host` meets its contract: refused by its number, or accepted with what it leaves and reads.
+use mathlib.Core.Path.{ap, ap₂, sym, _∙_}
+use borrow.Author.Needs.{needs}
+use denote.Ref.{now}
+use Rattle.exchange.specs.Machine.{accept, refuse, hostNumber}
+use Rattle.exchange.specs.Laws.{accepted-so, accepted-not}
+use Rattle.exchange.proofs.host.Statement.{statement}
+use Rattle.exchange.proofs.host.Tie as tie
+
+returns : tie.Need-returns
+returns c =
+    let a = c .before .before .before .before .args in
+    let e = c .before .before .host-number .ensures in
+    c .refused .ensures
+    ∙ ap (refuse (a .state)) e
+    ∙ sym (accepted-not (hostNumber (a .state) (now (a .octets))) _ _ (λ z. c .before .if1 .taken (e ∙ z)))
+
+returns-2 : tie.Need-returns-2
+returns-2 c =
+    let d = c .before .before .before in
+    let a = d .before .before .before .args in
+    c .accepted .ensures
+    ∙ ap₂ accept (c .before .before .host-after .ensures) (c .before .host-entry .ensures)
+    ∙ sym (accepted-so (hostNumber (a .state) (now (a .octets))) _ _ (sym (d .before .host-number .ensures) ∙ d .if1 .left))
+
+pub host-spec : {M : Type 1} → statement M
+host-spec = tie.close (tie.spec (search needs) (search needs) returns (search needs) (search needs) (search needs) returns-2)

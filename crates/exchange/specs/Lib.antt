@@ -1,0 +1,6 @@
+pub mod Machine
+pub mod Mapping
+pub mod Runs
+pub mod Laws
+pub mod MapLaws
+pub mod RunLaws
