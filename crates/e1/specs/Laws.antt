@@ -1,6 +1,6 @@
--- The laws of blocks and of the payload's order that the crates above cite.
-use Prim.Native.Nat.{ℕ, _+_, _%_, _≤_, _<_}
-use mathlib.Core.Path.{_≡_}
+-- The laws of answers, of the payload's order and of blocks that the crates above cite.
+use Prim.Native.Nat.{ℕ, zero, suc, _+_, _%_, _≤_, _<_}
+use mathlib.Core.Path.{_≡_, refl, ap}
 use mathlib.Core.Logic.{_≢_}
 use mathlib.Core.Bool.{Bool, true, false, cond}
 use mathlib.Core.List.{List}
@@ -11,8 +11,17 @@ use lib.ListN.{length, getD}
 use Rattle.line.specs.Bit.{bitAt}
 use Rattle.line.specs.TabLaws.{length-tab, getD-tab}
 use Rattle.line.specs.BitLaws.{bit-lt}
+use Rattle.e1.specs.Answer.{accepted}
 use Rattle.e1.specs.Block.{isCheckPlace, blockBit, blockBits}
 use Rattle.e1.specs.Payload.{indexOf, frameOf, slotOf}
+
+-- a number, and what is answered by it
+pub accepted-so {ℓ} : {A : Type ℓ} (n : ℕ) (a b : A) → n ≡ 0 → accepted n a b ≡ a
+accepted-so n a b e = ap (λ k. accepted k a b) e
+
+pub accepted-not {ℓ} : {A : Type ℓ} (n : ℕ) (a b : A) → (n ≡ 0 → ⊥) → accepted n a b ≡ b
+accepted-not zero a b h = absurd (h refl)
+accepted-not (suc n) a b h = refl
 
 -- the payload's order, there and back
 pub frame-of-index : (f j : ℕ) → 1 ≤ j → j ≤ 31 → frameOf (indexOf f j) ≡ f

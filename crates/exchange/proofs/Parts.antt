@@ -1,7 +1,7 @@
 -- A payload's frames, mapped part by part.
 use Prim.Native.Nat.{ℕ, _+_, _-_, _*_, _/_, _%_, _≤_}
 use mathlib.Core.Path.{_≡_, refl, sym, ap, ap₂, _∙_}
-use mathlib.Core.Bool.{true}
+use mathlib.Core.Bool.{true, and-eq-true-iff}
 use mathlib.Core.List.{List, _++_, append-assoc}
 use native.Mathlib.Omega.{arith}
 use lib.ListN.{length, take, drop, length-append, length-drop}
@@ -10,8 +10,8 @@ use lib.Dec.{eqb}
 use borrow.Author.Tests.{eqb-true}
 use Rattle.line.specs.Tab.{tabFrom}
 use Rattle.e1.specs.Payload.{sized}
-use Rattle.exchange.specs.Laws.{both, refused-mapping}
-use Rattle.exchange.specs.Mapping.{mappedPayload, mapNumber, mapped, Mapped}
+use Rattle.exchange.specs.Laws.{refused-mapping}
+use Rattle.exchange.specs.Mapping.{mappedPayload, mapNumber, Mapped}
 use Rattle.exchange.specs.MapLaws.{mapped-length, mapped-append, accepted-mapping}
 
 -- the output where its first n octets are p and the rest is d's: the next k are put in as q
@@ -66,4 +66,4 @@ module _ (m p d : List ℕ) where
 -- a payload of the right size is whole frames
 pub whole-frames : (n : ℕ) → sized n ≡ true → 31 * (n / 31) ≡ n
 unfolding sized
-whole-frames n e = let r = eqb-true (n % 496) 0 (both (eqb (n % 496) 0) _ e .0) in omega arith
+whole-frames n e = let r = eqb-true (n % 496) 0 (and-eq-true-iff (eqb (n % 496) 0) _ .0 e .0) in omega arith

@@ -1,7 +1,7 @@
 -- What holds of each call, from any state.
 use Prim.Native.Nat.{ℕ, zero, suc, _<_, _≤_}
 use mathlib.Core.Path.{_≡_, refl, sym, ap, _∙_}
-use mathlib.Core.Bool.{Bool, true, false, not, _&&_, _||_, true≢false}
+use mathlib.Core.Bool.{Bool, true, false, not, _&&_, _||_, true≢false, and-eq-true-iff}
 use mathlib.Core.List.{List}
 use native.Mathlib.Omega.{arith}
 use lib.Dec.{lit<, eqb, leb, ltb}
@@ -10,28 +10,17 @@ use lib.Seq.{getD-take}
 use borrow.Author.Tests.{eqb-true, leb-true, not-false}
 use Rattle.e1.specs.Answer.{if_then_else_, accepted}
 use Rattle.e1.specs.Payload.{sized}
+use Rattle.e1.specs.Laws.{accepted-not}
 use Rattle.exchange.specs.declared.State.{State}
 use Rattle.exchange.specs.declared.Answered.{Answered}
 use Rattle.exchange.specs.Mapping.{mapNumber, mapped}
 use Rattle.exchange.specs.Machine.{accept, refuse, kindOf, aOf, bOf, between, outside, locked, unstaged, hostNumber, stage, commit, discard, hostAfter, hostEntry, hosted, keyOn, keyOff, keyed}
 use Rattle.exchange.specs.Runs.{Call, host, key, boundary, mapping, step, answer, lent, listed, isBoundary, isCommit}
 
--- a number, and what is answered by it
-pub accepted-so {ℓ} : {A : Type ℓ} (n : ℕ) (a b : A) → n ≡ 0 → accepted n a b ≡ a
-accepted-so n a b e = ap (λ k. accepted k a b) e
-
-pub accepted-not {ℓ} : {A : Type ℓ} (n : ℕ) (a b : A) → (n ≡ 0 → ⊥) → accepted n a b ≡ b
-accepted-not zero a b h = absurd (h refl)
-accepted-not (suc n) a b h = refl
-
 -- what holds of both ways holds of the choice
 pub if-both {ℓ} : {A : Type ℓ} (P : A → Type 0) (t : Bool) {x y : A} → P x → P y → P (if t then x else y)
 if-both P true h k = h
 if-both P false h k = k
-
-pub both : (a b : Bool) → a && b ≡ true → (a ≡ true) × (b ≡ true)
-both true b e = (refl, e)
-both false b e = absurd (true≢false (sym e))
 
 -- A host record's answer by its number n, where t and e are what it would leave and read; the key's by its two tests.
 
@@ -156,7 +145,7 @@ accepted-passed s r e =
 pub slot-named : (s : State) (r : List ℕ) → hostNumber s r ≡ 0 → eqb (kindOf r) 1 || eqb (kindOf r) 3 ≡ true → (1 ≤ aOf r) × (aOf r ≤ 31)
 unfolding outside between
 slot-named s r z k =
-    let w = both (leb 1 (aOf r)) (leb (aOf r) 31) (passes (eqb (kindOf r) 1 || eqb (kindOf r) 3) _ _ k (accepted-passed s r z .inside)) in
+    let w = and-eq-true-iff (leb 1 (aOf r)) (leb (aOf r) 31) .0 (passes (eqb (kindOf r) 1 || eqb (kindOf r) 3) _ _ k (accepted-passed s r z .inside)) in
     (leb-true 1 (aOf r) (w .0), leb-true (aOf r) 31 (w .1))
   where
     passes : (x y z : Bool) → x ≡ true → (x && not y) || z ≡ false → y ≡ true
@@ -252,7 +241,7 @@ committed s r z q = ap (λ n. hostedBy s n (hostAfter s r) (hostEntry s r) .stat
 pub commit-waits : (s : State) (c : Call) → isCommit s c ≡ true → (s .flag ≡ true) × (s .staging ≡ true) × (step s c ≡ commit s)
 unfolding step isCommit hostAfter locked unstaged
 commit-waits s (host r) e =
-    let w = both (eqb (hostNumber s r) 0) (eqb (kindOf r) 2) e in
+    let w = and-eq-true-iff (eqb (hostNumber s r) 0) (eqb (kindOf r) 2) .0 e in
     let z = eqb-true (hostNumber s r) 0 (w .0) in
     let q = eqb-true (kindOf r) 2 (w .1) in
     let d = accepted-passed s r z in

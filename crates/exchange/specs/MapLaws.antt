@@ -13,7 +13,7 @@ use Rattle.line.specs.TabLaws.{length-tab, getD-tab, tab-agree, tab-split}
 use Rattle.e1.specs.Answer.{if_then_else_}
 use Rattle.e1.specs.Payload.{indexOf, frameOf, slotOf}
 use Rattle.e1.specs.Laws.{frame-of-index, slot-of-index, index-of}
-use Rattle.exchange.specs.Laws.{accepted-so}
+use Rattle.e1.specs.Laws.{accepted-so}
 use Rattle.exchange.specs.Mapping.{entryUsed, entryAt, slotOctet, mappedPayload, mapNumber, mapped, Mapped}
 
 -- an entry as it is used

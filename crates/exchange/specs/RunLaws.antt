@@ -1,11 +1,11 @@
 -- What holds of every run of calls.
 use Prim.Native.Nat.{ℕ, zero, suc}
 use mathlib.Core.Path.{_≡_, refl, sym, ap, ap₂, _∙_}
-use mathlib.Core.Bool.{Bool, true, false, not, _||_, true≢false}
+use mathlib.Core.Bool.{Bool, true, false, _||_, true≢false}
 use mathlib.Core.List.{List, [], _∷_}
 use lib.Dec.{eqb}
 use borrow.Author.Tests.{eq-eqb, eqb-true, not-false}
-use Rattle.e1.specs.Answer.{if_then_else_, accepted}
+use Rattle.e1.specs.Answer.{if_then_else_}
 use Rattle.exchange.specs.declared.State.{State}
 use Rattle.exchange.specs.Machine.{startState, kindOf, aOf, bOf, unstaged, hostNumber, stage, commit, discard, hostAfter, hostEntry, hosted, keyOff, keyed}
 use Rattle.exchange.specs.Runs.{Call, host, key, boundary, mapping, step, answer, after, answers, lastKey, quiet, heardOf, heardAll, heard, isBoundary, isKeyOn, isCommit, anyCall, bare}

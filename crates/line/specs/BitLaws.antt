@@ -24,7 +24,7 @@ field-lt s p (suc n) = rw pow-suc (omega (arith, field-lt s p n, bit-lt s (p + n
 -- n + m bits: the first n, and then m
 pub field-add : (s : List ℕ) (p n m : ℕ) → field s p (n + m) ≡ field s p n * 2 ^ m + field s (p + n) m
 unfolding field
-field-add s p n zero = rw add-zero (omega arith)
+field-add s p n zero = rw (add-zero n) (omega arith)
 field-add s p n (suc m) =
     rw (add-suc n m, field-add s p n m, ← add-assoc p n m, pow-suc 2 m)
     (omega (arith, mul-assoc (field s p n) (2 ^ m) 2))

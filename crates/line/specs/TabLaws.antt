@@ -1,7 +1,7 @@
 -- The laws of tables, searches, sums and counts.
 use Prim.Native.Nat.{ℕ, zero, suc, _+_, _*_, _<_, _≤_, zero-le, suc-le-suc}
 use mathlib.Core.Path.{_≡_, refl, sym, _∙_, ap, ap₂}
-use mathlib.Core.Bool.{Bool, true, false, cond, _&&_}
+use mathlib.Core.Bool.{Bool, true, false, cond, _&&_, and-eq-true-iff}
 use mathlib.Core.List.{List, [], _∷_, _++_}
 use mathlib.Core.Option.{Option, none, some, Option·none-ne-some, Option·some-ne-none, Option·some-injective}
 use mathlib.Core.Logic.{inl, inr, _↔_}
@@ -184,15 +184,11 @@ sum-none zero f h = refl
 sum-none (suc n) f h = omega (arith, sum-none n f (λ i l. h i (omega arith)), h n (omega arith))
 
 -- what all pass
-both : (a b : Bool) → a && b ≡ true → (a ≡ true) × (b ≡ true)
-both true b e = (refl, e)
-both false b e = let z : _≡_ {A = ℕ} 0 1 = ap (λ t. cond t 1 0) e in absurd (omega arith)
-
 pub all-at : (n : ℕ) (t : ℕ → Bool) → all n t ≡ true → (i : ℕ) → i < n → t i ≡ true
 unfolding all
 all-at zero t e i h = absurd (not-suc-le-zero h)
 all-at (suc n) t e i h =
-    let d = both (all n t) (t n) e in
+    let d = and-eq-true-iff (all n t) (t n) .0 e in
     elim (eq-or-lt-of-le (le-of-suc-le-suc h)) [ inl q ↦ ap t q ∙ d .1 | inr l ↦ all-at n t (d .0) i l ]
 
 pub at-all : (n : ℕ) (t : ℕ → Bool) → ((i : ℕ) → i < n → t i ≡ true) → all n t ≡ true

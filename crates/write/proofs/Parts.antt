@@ -1,6 +1,6 @@
 -- Frames, blocks and multiframes that are written part after part.
-use Prim.Native.Nat.{ℕ, zero, suc, _+_, _-_, _*_, _/_, _%_, _≤_, _<_}
-use mathlib.Core.Path.{_≡_, refl, sym, ap, ap₂, _∙_}
+use Prim.Native.Nat.{ℕ, _+_, _-_, _*_, _/_, _%_, _≤_, _<_}
+use mathlib.Core.Path.{_≡_, sym, ap, ap₂, _∙_}
 use mathlib.Core.Bool.{false, cond}
 use mathlib.Core.List.{List, [], _++_, append-nil}
 use native.Mathlib.Decide.{decLt}
@@ -13,9 +13,9 @@ use lib.Seq.{getD-take, getD-drop, drop-drop, take-at, drop-at}
 use Rattle.line.specs.Tab.{tab}
 use Rattle.line.specs.TabLaws.{length-tab, tab-agree, tab-split, tab-fill, fill-more}
 use Rattle.line.specs.PartLaws.{take-put-more, part-length}
-use Rattle.e1.specs.Answer.{accepted}
 use Rattle.e1.specs.Block.{blockCheck}
 use Rattle.e1.specs.Payload.{multiframes}
+use Rattle.e1.specs.Laws.{accepted-not}
 use Rattle.write.specs.Writing.{slot0, octet, block, carries, written}
 use Rattle.write.specs.Entry.{refusal, Wrote}
 use Rattle.write.specs.Inputs.{Inputs, limit-range}
@@ -169,11 +169,12 @@ module _ (p o : List ℕ) (c : ℕ) (out : List ℕ) (m : ℕ) (e : m ≡ refusa
   n = multiframes p
 
   pub refused : (m ≡ 0 → ⊥) → Wrote p o c out (record { number = m; check = 0 }) out
-  refused z = record { its-number = e; its-check = kept m (carries p o c (2 * n)) 0 z; its-out = kept m (written p o c (2 * n) ++ drop (512 * n) out) out z }
-    where
-      kept : {A : Type 0} (m : ℕ) (a b : A) → (m ≡ 0 → ⊥) → b ≡ accepted m a b
-      kept zero a b z = absurd (z refl)
-      kept (suc m) a b z = refl
+  refused z =
+      record {
+        its-number = e;
+        its-check = sym (accepted-not m (carries p o c (2 * n)) 0 z);
+        its-out = sym (accepted-not m (written p o c (2 * n) ++ drop (512 * n) out) out z);
+      }
 
   pub taken : (k : ℕ) (out' : List ℕ) → m ≡ 0 → k ≡ carries p o c (2 * n) → out' ≡ written p o c (2 * n) ++ drop (512 * n) out
       → Wrote p o c out (record { number = m; check = k }) out'

@@ -3,7 +3,7 @@ use mathlib.Core.Path.{ap, ap₂, sym, _∙_}
 use borrow.Author.Needs.{needs}
 use denote.Ref.{now}
 use Rattle.exchange.specs.Machine.{accept, refuse, hostNumber}
-use Rattle.exchange.specs.Laws.{accepted-so, accepted-not}
+use Rattle.e1.specs.Laws.{accepted-so, accepted-not}
 use Rattle.exchange.proofs.host.Statement.{statement}
 use Rattle.exchange.proofs.host.Tie as tie
 

@@ -1,0 +1,74 @@
+-- The bench cases that go to proof, as one list under one claim.
+use Prim.Native.Nat.{ℕ, _+_, _-_, _*_, _^_}
+use mathlib.Core.Path.{_≡_, refl}
+use mathlib.Core.Bool.{Bool, true, _&&_, cond}
+use mathlib.Core.List.{List, [], _∷_}
+use lib.Dec.{eqb}
+use Rattle.line.specs.Bit.{bitAt}
+use Rattle.line.specs.Tab.{tab, tabFrom, sum}
+use Rattle.crc.specs.Remainder.{step, after, check}
+use Rattle.e1.specs.Block.{blockBit, blockBits, blockCheck}
+use Rattle.e1.specs.Frame.{evenSlot0, oddSlot0}
+use Rattle.exchange.specs.Mapping.{entryAt}
+use Rattle.exchange.specs.Machine.{startState, between, outside, locked, unstaged, hostNumber, hostAfter}
+use Rattle.exchange.specs.Runs as runs
+use Rattle.claims.specs.Demand1.{among}
+use Rattle.exchange.specs.Runs.{Call, host, key, boundary}
+
+-- A case: the places of a block's bits that are 1, and its check; an octet, and what it is; a run from the start, a slot, and its live
+-- entry then.
+pub data Case : Type 0 where
+  ones : List ℕ → ℕ → Case
+  octet : ℕ → ℕ → Case
+  run : List Call → ℕ → ℕ → Case
+
+-- the octets of a block with ones at these places alone
+unfoldable pub blockOf : List ℕ → List ℕ
+blockOf places = tab 256 (λ i. sum 8 (λ j. cond (among (8 * i + j) places) (2 ^ (7 - j)) 0))
+
+unfoldable pub holds : Case → Bool
+holds (ones places c) = eqb (blockCheck (blockOf places) 0) c
+holds (octet x y) = eqb x y
+holds (run calls slot entry) = eqb (entryAt (runs.after startState calls .live) slot) entry
+
+abbrev pub allHold : List Case → Bool
+allHold [] = true
+allHold (c ∷ cs) = holds c && allHold cs
+
+abbrev pub stage-5-9 : Call
+stage-5-9 = host (1 ∷ 5 ∷ 9 ∷ 0 ∷ [])
+
+abbrev pub commit : Call
+commit = host (2 ∷ 0 ∷ 0 ∷ 0 ∷ [])
+
+-- the bits of a block are 0 to 2047; checks are 0000, 0011, 0110, 1100, 1011 as numbers
+unfoldable pub cases : List Case
+cases =
+    -- 1
+    ones [] 0
+    -- 2
+    ∷ ones (2047 ∷ []) 3
+    ∷ ones (2046 ∷ []) 6
+    ∷ ones (2045 ∷ []) 12
+    ∷ ones (2044 ∷ []) 11
+    -- 3
+    ∷ ones (2047 ∷ 2032 ∷ []) 0
+    -- 4
+    ∷ ones (0 ∷ []) 0
+    -- 5
+    ∷ ones (2043 ∷ 2046 ∷ 2047 ∷ []) 0
+    -- 6: 0x1B, 0x9B, 0x5F, 0x7F
+    ∷ octet (evenSlot0 0) 27
+    ∷ octet (evenSlot0 1) 155
+    ∷ octet (oddSlot0 0 31) 95
+    ∷ octet (oddSlot0 0 63) 127
+    -- 7
+    ∷ run (key 1 ∷ stage-5-9 ∷ commit ∷ key 0 ∷ boundary ∷ key 1 ∷ []) 5 5
+    -- 8
+    ∷ run (key 1 ∷ stage-5-9 ∷ commit ∷ boundary ∷ key 0 ∷ []) 5 9
+    ∷ []
+
+pub bench : allHold cases ≡ true
+unfolding cases holds blockOf blockCheck blockBits blockBit check after step bitAt tabFrom sum runs.after runs.step hostNumber hostAfter between outside
+    locked unstaged
+bench = refl
