@@ -1,0 +1,30 @@
+//! Which place stands.
+
+use crate::line::{word_at, SIGNAL};
+
+fn basic_alignment(bits: &[u8], p: usize) -> bool {
+    word_at(bits, p) && bits[p + 257] == 1 && word_at(bits, p + 512)
+}
+
+fn signal_at(bits: &[u8], p: usize, k: usize) -> bool {
+    let m = |k| bits[p + 256 + 512 * k];
+    (0..6).all(|i| m(k + i) == SIGNAL[i])
+}
+
+/// Whether another signal follows the one at k, a multiple of 2 ms later.
+fn paired(bits: &[u8], p: usize, k: usize) -> bool {
+    (1..=3).any(|j| k + 8 * j + 5 <= 31 && signal_at(bits, p, k + 8 * j))
+}
+
+/// The least k of a place that stands.
+fn stands(bits: &[u8], p: usize) -> Option<usize> {
+    if p + 16_384 > bits.len() || !basic_alignment(bits, p) {
+        return None;
+    }
+    (0..=26).find(|&k| signal_at(bits, p, k) && paired(bits, p, k))
+}
+
+/// The first place that stands, with its least k.
+pub fn first(bits: &[u8]) -> Option<(usize, usize)> {
+    (0..bits.len()).find_map(|p| stands(bits, p).map(|k| (p, k)))
+}
