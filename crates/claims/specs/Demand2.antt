@@ -130,11 +130,13 @@ module _ (s payload slot0 : List ℕ) (r : Reading) (payload' slot0' : List ℕ)
 
   front : payload' ≡ payloadOf s (r .start) (r .used) ++ drop (496 * r .used) payload
   front =
-      got (payloadOf s (reading.startIn s) (reading.usedIn s) ++ drop (496 * reading.usedIn s) payload) payload (h .its-payload) z ∙ sym (ap₂ (λ x y. payloadOf s x y ++ drop (496 * y) payload) q g)
+      got (payloadOf s (reading.startIn s) (reading.usedIn s) ++ drop (496 * reading.usedIn s) payload) payload (h .its-payload) z
+      ∙ sym (ap₂ (λ x y. payloadOf s x y ++ drop (496 * y) payload) q g)
 
   front-0 : slot0' ≡ slot0Of s (r .start) (r .used) ++ drop (16 * r .used) slot0
   front-0 =
-      got (slot0Of s (reading.startIn s) (reading.usedIn s) ++ drop (16 * reading.usedIn s) slot0) slot0 (h .its-slot0) z ∙ sym (ap₂ (λ x y. slot0Of s x y ++ drop (16 * y) slot0) q g)
+      got (slot0Of s (reading.startIn s) (reading.usedIn s) ++ drop (16 * reading.usedIn s) slot0) slot0 (h .its-slot0) z
+      ∙ sym (ap₂ (λ x y. slot0Of s x y ++ drop (16 * y) slot0) q g)
 
   pub octet-read : (f j : ℕ) → f < 16 * r .used → 1 ≤ j → j ≤ 31 → getD payload' (indexOf f j) 0 ≡ octetAt s (slot (r .start) f j)
   octet-read f j l a b =
@@ -261,7 +263,8 @@ module _ (p o : List ℕ) (c n : ℕ) (g : Inputs p o c n) where
         reads-clean =
             record {
               number = number;
-              place = got (reading.placeIn line) 0 (h .its-place) number ∙ sym (place-is line (record { place = 0; k = 0 }) (clean.stands-at-once line n framed four));
+              place = got (reading.placeIn line) 0 (h .its-place) number
+                  ∙ sym (place-is line (record { place = 0; k = 0 }) (clean.stands-at-once line n framed four));
               start = at-0;
               whole = got (reading.wholeIn line) 0 (h .its-whole) number ∙ whole-n;
               used = all-n;
@@ -270,7 +273,8 @@ module _ (p o : List ℕ) (c n : ℕ) (g : Inputs p o c n) where
               compared = a .compares ∙ ap compared all-n;
               errored = a .errors ∙ ap₂ (errored line) at-0 all-n ∙ clean.none-errored line n framed;
               farend = a .far-end ∙ ap₂ (farEnd line) at-0 all-n ∙ clean.far-end-all line n framed ∙ sum-ext (n - 1) (zerosE line 0) (zeroEs o) e-bits;
-              payload = ap (take (496 * n)) (front line payload slot0 r payload' slot0' h number ∙ ap₂ (λ x y. payloadOf line x y ++ drop (496 * y) payload) at-0 all-n)
+              payload = ap (take (496 * n)) (front line payload slot0 r payload' slot0' h number
+                  ∙ ap₂ (λ x y. payloadOf line x y ++ drop (496 * y) payload) at-0 all-n)
                   ∙ take-at (payloadOf line 0 n) (drop (496 * n) payload) (496 * n) (reads.payload-length line 0 n)
                   ∙ writes.payload-back g octets;
               overhead = tab-agree (8 * n) (λ h. overheadOf h (getD slot0' (2 * h + 1) 0)) (λ h. overheadOf h (octetAt line (slot 0 (2 * h + 1) 0)))

@@ -60,9 +60,20 @@ module _ (s t : List ℕ) where
   unfolding carried
   bits-of-carried q j h e = go j h
     where
-      same : (bitAt s q ≡ bitAt t q) × (bitAt s (q + 512) ≡ bitAt t (q + 512)) × (bitAt s (q + 1024) ≡ bitAt t (q + 1024)) × (bitAt s (q + 1536) ≡ bitAt t (q + 1536))
+      same : (bitAt s q ≡ bitAt t q) × (bitAt s (q + 512) ≡ bitAt t (q + 512))
+          × (bitAt s (q + 1024) ≡ bitAt t (q + 1024)) × (bitAt s (q + 1536) ≡ bitAt t (q + 1536))
       same =
-          omega (arith, bit-lt s q, bit-lt t q, bit-lt s (q + 512), bit-lt t (q + 512), bit-lt s (q + 1024), bit-lt t (q + 1024), bit-lt s (q + 1536), bit-lt t (q + 1536))
+          omega (
+            arith,
+            bit-lt s q,
+            bit-lt t q,
+            bit-lt s (q + 512),
+            bit-lt t (q + 512),
+            bit-lt s (q + 1024),
+            bit-lt t (q + 1024),
+            bit-lt s (q + 1536),
+            bit-lt t (q + 1536),
+          )
 
       go : (j : ℕ) → j < 4 → bitAt s (q + 512 * j) ≡ bitAt t (q + 512 * j)
       go zero h = rw add-zero (same .0)

@@ -81,8 +81,12 @@ module _ (s t : List ℕ) (q a : ℕ) (only : (p : ℕ) → bitAt s p ≢ bitAt 
           let b : bs ≡ cs = ext-getD 0 bs cs l (λ i h. at i (λ w. omega (arith, block-length s q))) in
           (b, sym cu ∙ ap (check 4) b ∙ cv)
       go (yes e) (yes h) =
-          let c : carried s (q + 2048) ≡ carried t (q + 2048) = carried-parts s (q + 2048) ∙ ap₂ (λ x y. x * 8 + y) e (low-same h) ∙ sym (carried-parts t (q + 2048)) in
-          (burst-same 4 (lit≤ tt) bs cs (block-bits s q) (block-bits t q) l (a - q) (λ i k. at i (λ w. omega arith)) (λ i k. at i (λ w. omega arith)) (cu ∙ c ∙ sym cv), c)
+          let c : carried s (q + 2048) ≡ carried t (q + 2048)
+          = carried-parts s (q + 2048) ∙ ap₂ (λ x y. x * 8 + y) e (low-same h) ∙ sym (carried-parts t (q + 2048)) in
+          let b : bs ≡ cs
+          = burst-same 4 (lit≤ tt) bs cs (block-bits s q) (block-bits t q) l (a - q)
+          (λ i k. at i (λ w. omega arith)) (λ i k. at i (λ w. omega arith)) (cu ∙ c ∙ sym cv) in
+          (b, c)
       go (no n) d =
           -- the first bit of the check is hit, so of the block only its last three can be
           let (h, h′) = only (q + 2048) n in

@@ -94,7 +94,8 @@ module _ (w : ℕ) (wide : 2 ≤ w) where
       let g : h * (2 ^ w + 3) ≡ h * 2 ^ w + 3 * h = omega arith in
       let four : 4 ≤ 2 ^ w = pow-mono wide in
       sym (ap₂ bitXor (sym (split t w)) g ∙ xor-block w h h (t % 2 ^ w) (3 * h) (mod-lt t (pow-pos w)) (omega arith)
-      ∙ ap (λ x. x * 2 ^ w + bitXor (t % 2 ^ w) (3 * h)) (xor-self h) ∙ (let k : 0 * 2 ^ w + bitXor (t % 2 ^ w) (3 * h) ≡ bitXor (t % 2 ^ w) (3 * h) = omega arith in k))
+      ∙ ap (λ x. x * 2 ^ w + bitXor (t % 2 ^ w) (3 * h)) (xor-self h)
+      ∙ (let k : 0 * 2 ^ w + bitXor (t % 2 ^ w) (3 * h) ≡ bitXor (t % 2 ^ w) (3 * h) = omega arith in k))
 
   divided : (q r : ℕ) (bs : List ℕ) → r < 2 ^ w → Bits bs → (p : ℕ) × (poly (bitXor (timesGen w q) r) bs ≡ bitXor (timesGen w p) (after w r bs))
   unfolding poly after

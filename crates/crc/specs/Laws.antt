@@ -123,7 +123,8 @@ module _ (w : ℕ) (wide : 2 ≤ w) where
   check-linear bs cs hb hc e =
       after-append w 0 (plus bs cs) (zeros w)
       ∙ ap₂ (after w) (after-linear 0 0 bs cs (pow-pos w) (pow-pos w) hb hc e) (sym (plus-zeros w))
-      ∙ after-linear (after w 0 bs) (after w 0 cs) (zeros w) (zeros w) (after-lt 0 bs (pow-pos w) hb) (after-lt 0 cs (pow-pos w) hc) (zeros-bits w) (zeros-bits w) refl
+      ∙ after-linear (after w 0 bs) (after w 0 cs) (zeros w) (zeros w)
+      (after-lt 0 bs (pow-pos w) hb) (after-lt 0 cs (pow-pos w) hc) (zeros-bits w) (zeros-bits w) refl
       ∙ sym (ap₂ bitXor (after-append w 0 bs (zeros w)) (after-append w 0 cs (zeros w)))
 
   pub check-lt : (bs : List ℕ) → Bits bs → check w bs < 2 ^ w
@@ -161,7 +162,8 @@ module _ (w : ℕ) (wide : 2 ≤ w) where
   held zero k r (b ∷ bs) e hr hd z a =
       let kw : k ≡ w = omega arith in
       let hr′ : r < 2 ^ w = subst (λ x. r < 2 ^ x) kw hr in
-      let rest = held zero k (step w r b) bs e (subst (λ x. step w r b < 2 ^ x) (sym kw) (step-lt r b hr′ (hd 0))) (λ i. hd (suc i)) (λ i h. z (suc i) zero-le) a in
+      let hs : step w r b < 2 ^ k = subst (λ x. step w r b < 2 ^ x) (sym kw) (step-lt r b hr′ (hd 0)) in
+      let rest = held zero k (step w r b) bs e hs (λ i. hd (suc i)) (λ i h. z (suc i) zero-le) a in
       (step-zero-injective r hr′ (subst (λ x. step w r x ≡ 0) (z 0 zero-le) (rest .0)), cons-zero b bs (z 0 zero-le) (rest .1))
   held (suc n) k r (b ∷ bs) e hr hd z a =
       let hb : b < 2 = hd 0 in
@@ -231,7 +233,8 @@ module _ (w : ℕ) (wide : 2 ≤ w) where
       λ e. zeros-kept (after w 0 (plus bs cs)) (zeros w) (after-lt 0 (plus bs cs) (pow-pos w) plus-bits) (zeros-zero w)
           (sym (after-append w 0 (plus bs cs) (zeros w)) ∙ check-linear bs cs hb hc l ∙ ap (λ x. bitXor x (check w cs)) e ∙ xor-self (check w cs)),
       λ e. xor-eq (check w bs) (check w cs)
-          (sym (check-linear bs cs hb hc l) ∙ after-append w 0 (plus bs cs) (zeros w) ∙ ap (λ x. after w x (zeros w)) e ∙ zeros-of-zero (zeros w) (zeros-zero w)),
+          (sym (check-linear bs cs hb hc l) ∙ after-append w 0 (plus bs cs) (zeros w) ∙ ap (λ x. after w x (zeros w)) e
+          ∙ zeros-of-zero (zeros w) (zeros-zero w)),
     )
 
     -- two blocks with one check that agree but for w places in a row are one block
@@ -257,7 +260,8 @@ module _ (w : ℕ) (wide : 2 ≤ w) where
         let R : ℕ = after w 0 d in
         let hR : R < 2 ^ w = after-lt 0 d (pow-pos w) plus-bits in
         let v : suc (w - 1) ≡ w = omega arith in
-        let back : after w 1 (zeros (w - 1)) ≡ 2 ^ (w - 1) = zeros-shift (w - 1) 1 (omega (arith, pow-lt {i = w - 1} {j = w} (le-of-eq v))) ∙ one-mul (2 ^ (w - 1)) in
+        let less : 2 ^ (w - 1) < 2 ^ w = pow-lt {i = w - 1} {j = w} (le-of-eq v) in
+        let back : after w 1 (zeros (w - 1)) ≡ 2 ^ (w - 1) = zeros-shift (w - 1) 1 (omega arith) ∙ one-mul (2 ^ (w - 1)) in
         let out : after w (step w R 0) (zeros (w - 1)) ≡ after w 1 (zeros (w - 1))
         = ap (λ x. after w R (zeros x)) v ∙ sym (after-append w 0 d (zeros w)) ∙ check-linear bs cs hb hc l ∙ e ∙ sym back in
         let one : step w R 0 ≡ 1 = zeros-injective (w - 1) (step w R 0) 1 (step-lt R 0 hR (lit< tt)) (omega (arith, four)) out in

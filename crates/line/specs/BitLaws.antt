@@ -43,7 +43,16 @@ unfolding field
 field-in s q o zero m h = sym (mod-one _)
 field-in s q o (suc n) m h =
     let e : 7 - (o + n) ≡ m = omega arith in
-    rw (field-in s q o n (suc m) (omega arith), add-assoc (8 * q) o n, bit-in s q (o + n) (omega arith), e, ← add-one m, ← add-one n, mod-pow-add (getD s q 0 / 2 ^ m) n 1, shr-shr (getD s q 0) m 1)
+    rw (
+      field-in s q o n (suc m) (omega arith),
+      add-assoc (8 * q) o n,
+      bit-in s q (o + n) (omega arith),
+      e,
+      ← add-one m,
+      ← add-one n,
+      mod-pow-add (getD s q 0 / 2 ^ m) n 1,
+      shr-shr (getD s q 0) m 1,
+    )
     (omega arith)
 
 -- an octet at place o of the octet q: the low bits of q, and the high bits of the next

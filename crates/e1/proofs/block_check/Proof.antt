@@ -19,10 +19,11 @@ abbrev μ-loop : tie.MeasureT-loop
 loop-again : tie.Need-loop-again Inv-loop μ-loop
 loop-again c =
     let l = c .before .before .before in
+    let o = c .before .block-octet in
     let a = l .before .before .args in (
       omega arith,
       c .after-octet .ensures .1,
-      c .after-octet .ensures .0 ∙ octet-more (a .s .now) (a .q) (l .loop .i) (l .loop .r) (c .before .block-octet .result) (l .loop .inv .2) (c .before .block-octet .ensures),
+      c .after-octet .ensures .0 ∙ octet-more (a .s .now) (a .q) (l .loop .i) (l .loop .r) (o .result) (l .loop .inv .2) (o .ensures),
     )
 
 returns : tie.Need-returns Inv-loop μ-loop

@@ -18,4 +18,6 @@ bit-spec =
     (λ c. omega (arith, and-le-r (c .before .args .p) 7))
     (search needs)
     (search needs)
-    (λ c. (rw (and-mask (c .before .args .p) 3) (and-mask _ 1), omega (arith, and-le-r (getD (now (c .before .args .s)) (c .before .args .p / 8) 0 / 2 ^ (7 - bitAnd (c .before .args .p) 7)) 1))))
+    (λ c.
+    let a = c .before .args in
+    (rw (and-mask (a .p) 3) (and-mask _ 1), omega (arith, and-le-r (getD (now (a .s)) (a .p / 8) 0 / 2 ^ (7 - bitAnd (a .p) 7)) 1))))
