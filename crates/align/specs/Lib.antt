@@ -1,3 +1,4 @@
 pub mod Place
 pub mod Stands
+pub mod Window
 pub mod Laws

@@ -1,9 +1,12 @@
 // The search for the first place of an image that stands.
 ghost use mathlib.Core.Path.{_≡_};
-ghost use Prim.Native.Nat.{_+_, _*_, _^_, _<_, _≤_};
+ghost use mathlib.Core.Bool.{true};
+ghost use Prim.Native.Nat.{ℕ, _+_, _-_, _*_, _/_, _%_, _^_, _<_, _≤_};
 ghost use lib.ListN.{length};
 ghost use Rattle.line.specs.Bit.{Room};
 ghost use Rattle.align.specs.Place.{basic, signalAt, againAt, pairAt, firstStanding, found};
+ghost use Rattle.align.specs.Stands.{Basic};
+ghost use Rattle.align.specs.Window.{One, Marks, SignalIn, Signals, Pairs, NoneStands};
 
 // the place and its least k
 pub enum Found {
@@ -48,7 +51,77 @@ fn pair(s: &[u8], p: usize, k: usize) -> bool
     signal(s, p, k) && (again(s, p, k, 1) || (again(s, p, k, 2) || again(s, p, k, 3)))
 }
 
-// the first place that stands, with its least k
+// where the word 0011011 ends in w
+fn words(w: u64) -> u64
+    ensures { λ r. ⌜ ((n : ℕ) → n < 64 → w / 2 ^ n % 2 ^ 7 ≡ 27 → One r n) ⌝ }
+{
+    !(w >> 6) & !(w >> 5) & (w >> 4) & (w >> 3) & !(w >> 2) & (w >> 1) & w
+}
+
+// bit 56 - o is 1 where the place 8i + o, o below 56, has basic alignment
+fn starts(s: &[u8], i: usize) -> u64
+    requires { ⌜ Room (now s) (8 * i) 16384 ⌝ }
+    ensures { λ r. ⌜ ((o : ℕ) → o < 56 → Basic (now (s .entry)) (8 * i + o) → One r (56 - o)) ⌝ }
+{
+    words(line::window(s, i)) & words(line::window(s, i + 64)) & (line::window(s, i + 32) >> 6)
+}
+
+// a window of each of the 32 marks
+fn marks(s: &[u8], i: usize) -> [u64; 32]
+    requires { ⌜ Room (now s) (8 * i) 16384 ⌝ }
+    ensures { λ r. ⌜ Marks (now (s .entry)) i 32 r ⌝ }
+{
+    let mut m = [0u64; 32];
+    for k in 0..32 {
+        m[k] = line::window(s, i + 32 + 64 * k);
+    }
+    m
+}
+
+// where six marks are 0, 0, 1, 0, 1, 1
+fn signal_in(a: u64, b: u64, c: u64, d: u64, e: u64, f: u64) -> u64
+    ensures { λ r. ⌜ SignalIn a b c d e f r ⌝ }
+{
+    !a & !b & c & !d & e & f
+}
+
+// where the signal is at each k; past the last there is none
+fn signals(m: &[u64; 32]) -> [u64; 43]
+    ensures { λ r. ⌜ Signals (now (m .entry)) 27 r ⌝ }
+{
+    let mut g = [0u64; 43];
+    for k in 0..27 {
+        g[k] = signal_in(m[k], m[k + 1], m[k + 2], m[k + 3], m[k + 4], m[k + 5]);
+    }
+    g
+}
+
+// where it is at some k and once more
+fn pairs(g: &[u64; 43]) -> u64
+    ensures { λ r. ⌜ Pairs (now (g .entry)) 19 r ⌝ }
+{
+    let mut r = 0;
+    for k in 0..19 {
+        r = r | (g[k] & (g[k + 8] | g[k + 16] | g[k + 24]));
+    }
+    r
+}
+
+// true only where none of the 56 places from octet i on stands
+fn none_stands(s: &[u8], i: usize) -> bool
+    requires { ⌜ Room (now s) (8 * i) 16384 ⌝ }
+    ensures { λ r. ⌜ (r ≡ true → NoneStands (now (s .entry)) i) ⌝ }
+{
+    let h = starts(s, i);
+    if h == 0 {
+        return true;
+    }
+    let m = marks(s, i);
+    let g = signals(&m);
+    h & (pairs(&g) >> 7) == 0
+}
+
+// the first place that stands, with its least k; at an octet's start 56 places are left out where none of them can stand
 pub fn find(s: &[u8]) -> Found
     requires { ⌜ length (now s) < 2 ^ 60 ⌝ }
     ensures { λ r. ⌜ r ≡ found (firstStanding (now (s .entry))) ⌝ }
@@ -58,6 +131,10 @@ pub fn find(s: &[u8]) -> Found
     'search: loop {
         if bits < p + 16384 {
             break 'search Found::Nothing;
+        }
+        if p % 8 == 0 && none_stands(s, p / 8) {
+            p += 56;
+            continue 'search;
         }
         if basic(s, p) {
             for k in 0..19 {

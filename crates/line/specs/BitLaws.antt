@@ -7,7 +7,7 @@ use native.Mathlib.Numerals.{add-one}
 use native.Mathlib.Omega.{arith}
 use lib.Bits.{bitAnd, bitOr, and-mask, or-shifted}
 use lib.ListN.{getD}
-use lib.Pow.{high, shr-shr, mod-pow-add, shl-shr, shr-mod, shr-lt}
+use lib.Pow.{high, low, shr-shr, mod-pow-add, shl-shr, shr-mod, shr-lt}
 use Rattle.line.specs.Tab.{tab}
 use Rattle.line.specs.TabLaws.{getD-tab, tab-agree}
 use Rattle.line.specs.Bit.{bitAt, field, octetAt, octetBits}
@@ -102,13 +102,16 @@ pub bit-tab : (n : ℕ) (f : ℕ → ℕ) (p : ℕ) → p / 8 < n → bitAt (tab
 unfolding bitAt
 bit-tab n f p h = rw (getD-tab n f (p / 8) 0 h)
 
-last-bit : (s : List ℕ) (p n : ℕ) → field s p (n + 1) % 2 ≡ bitAt s (p + n)
-unfolding field
-last-bit s p n = rw add-one (omega (arith, bit-lt s (p + n)))
+-- of a + n + m bits the n that have m behind them
+pub field-within : (s : List ℕ) (p a n m : ℕ) → field s p (a + n + m) / 2 ^ m % 2 ^ n ≡ field s (p + a) n
+field-within s p a n m =
+    rw (field-add s p (a + n) m, high (field s p (a + n)) m (field-lt s (p + (a + n)) m), field-add s p a n)
+    (low (field s p a) n (field-lt s (p + a) n))
 
--- of n + 1 + m bits the one with m behind it
+-- and the one
 pub bit-of-field : (s : List ℕ) (p n m : ℕ) → field s p (n + 1 + m) / 2 ^ m % 2 ≡ bitAt s (p + n)
-bit-of-field s p n m = rw (field-add s p (n + 1) m, high (field s p (n + 1)) m (field-lt s (p + (n + 1)) m)) (last-bit s p n)
+unfolding field
+bit-of-field s p n m = field-within s p n 1 m ∙ rw add-zero (omega arith)
 
 -- the bits of an octet of the line
 pub octet-bits : (s : List ℕ) (p : ℕ) → octetBits (octetAt s p) ≡ tab 8 (λ i. bitAt s (p + i))

@@ -2,6 +2,7 @@ ghost use mathlib.Core.Path.{_≡_};
 ghost use Prim.Native.Nat.{_+_, _*_, _<_, _≤_};
 ghost use lib.ListN.{length};
 ghost use Rattle.line.specs.Bit.{bitAt, field, octetAt};
+ghost use Rattle.line.specs.Window.{lowFirst, turned};
 
 // the bit at place p
 pub fn bit(s: &[u8], p: usize) -> u8
@@ -30,4 +31,41 @@ pub fn word(s: &[u8], p: usize) -> u8
     ensures { λ r. ⌜ r ≡ field (now (s .entry)) (p + 1) 7 ⌝ }
 {
     octet(s, p) & 0x7f
+}
+
+// an octet as a wider number
+fn wide(x: u8) -> u64
+    ensures { λ r. ⌜ (r ≡ x) × (r < 256) ⌝ }
+{
+    x as u64
+}
+
+// the four octets from i on as a number, the first the lowest: two of these are one load
+fn little(s: &[u8], i: usize) -> u64
+    requires { ⌜ i + 4 ≤ length (now s) ⌝ }
+    ensures { λ r. ⌜ (r ≡ lowFirst (now (s .entry)) i 4) × (r < 4294967296) ⌝ }
+{
+    wide(s[i]) + 256 * wide(s[i + 1]) + 65536 * wide(s[i + 2]) + 16777216 * wide(s[i + 3])
+}
+
+// the octets of a number the other way round: one swap
+fn turned(w: u64) -> u64
+    ensures { λ r. ⌜ r ≡ turned 8 w ⌝ }
+{
+    72057594037927936 * (w % 256)
+        + 281474976710656 * (w / 256 % 256)
+        + 1099511627776 * (w / 65536 % 256)
+        + 4294967296 * (w / 16777216 % 256)
+        + 16777216 * (w / 4294967296 % 256)
+        + 65536 * (w / 1099511627776 % 256)
+        + 256 * (w / 281474976710656 % 256)
+        + w / 72057594037927936 % 256
+}
+
+// the number that the 64 bits from octet i on spell
+pub fn window(s: &[u8], i: usize) -> u64
+    requires { ⌜ i + 8 ≤ length (now s) ⌝ }
+    ensures { λ r. ⌜ r ≡ field (now (s .entry)) (8 * i) 64 ⌝ }
+{
+    turned(little(s, i) + 4294967296 * little(s, i + 4))
 }
