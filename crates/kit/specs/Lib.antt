@@ -1,0 +1,4 @@
+pub mod Octets
+pub mod Calls
+pub mod Laws
+pub mod Runs
