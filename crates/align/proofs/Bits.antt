@@ -27,6 +27,9 @@ or-one-l x y n h =
     one (suc zero) h = refl
     one (suc (suc b)) h = absurd (omega arith)
 
+pub or-zero : (x y n : ℕ) → bitOf x n ≡ 0 → bitOf y n ≡ 0 → bitOf (bitOr x y) n ≡ 0
+or-zero x y n h g = ap (λ a. a % 2) (or-shr x y n) ∙ or-mod (x / 2 ^ n) (y / 2 ^ n) 1 ∙ ap₂ bitOr h g
+
 pub or-one-r : (x y n : ℕ) → One y n → One (bitOr x y) n
 or-one-r x y n h = rw (or-comm x y) (or-one-l y x n h)
 

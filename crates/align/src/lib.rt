@@ -51,11 +51,14 @@ fn pair(s: &[u8], p: usize, k: usize) -> bool
     signal(s, p, k) && (again(s, p, k, 1) || (again(s, p, k, 2) || again(s, p, k, 3)))
 }
 
-// where the word 0011011 ends in w
-fn words(w: u64) -> u64
-    ensures { λ r. ⌜ ((n : ℕ) → n < 64 → w / 2 ^ n % 2 ^ 7 ≡ 27 → One r n) ⌝ }
+// where the word 0011011 ends in both of two windows; it is 0, 011, 011
+fn words(v: u64, w: u64) -> u64
+    ensures { λ r. ⌜ ((n : ℕ) → n < 57 → v / 2 ^ n % 2 ^ 7 ≡ 27 → w / 2 ^ n % 2 ^ 7 ≡ 27 → One r n) ⌝ }
 {
-    !(w >> 6) & !(w >> 5) & (w >> 4) & (w >> 3) & !(w >> 2) & (w >> 1) & w
+    let both = v & w;
+    let any = v | w;
+    let threes = !(any >> 2) & (both >> 1) & both;
+    !(any >> 6) & (threes >> 3) & threes
 }
 
 // bit 56 - o is 1 where the place 8i + o, o below 56, has basic alignment
@@ -63,7 +66,11 @@ fn starts(s: &[u8], i: usize) -> u64
     requires { ⌜ Room (now s) (8 * i) 16384 ⌝ }
     ensures { λ r. ⌜ ((o : ℕ) → o < 56 → Basic (now (s .entry)) (8 * i + o) → One r (56 - o)) ⌝ }
 {
-    words(line::window(s, i)) & words(line::window(s, i + 64)) & (line::window(s, i + 32) >> 6)
+    let h = words(line::window(s, i), line::window(s, i + 64));
+    if h == 0 {
+        return 0;
+    }
+    h & (line::window(s, i + 32) >> 6)
 }
 
 // a window of each of the 32 marks
