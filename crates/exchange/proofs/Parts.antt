@@ -1,18 +1,54 @@
 -- A payload's frames, mapped part by part.
-use Prim.Native.Nat.{ℕ, _+_, _-_, _*_, _/_, _%_, _≤_}
+use Prim.Native.Nat.{ℕ, zero, suc, _+_, _-_, _*_, _/_, _%_, _≤_, _<_}
 use mathlib.Core.Path.{_≡_, refl, sym, ap, ap₂, _∙_}
 use mathlib.Core.Bool.{true, and-eq-true-iff}
-use mathlib.Core.List.{List, _++_, append-assoc}
+use mathlib.Core.List.{List, _∷_, _++_, append-assoc}
 use native.Mathlib.Omega.{arith}
-use lib.ListN.{length, take, drop, length-append, length-drop}
-use lib.Seq.{take-at, drop-at, drop-drop, take-add, take-length, length-take-le}
+use native.Mathlib.Numerals.{add-one}
+use lib.ListN.{length, getD, take, drop, set, length-append, length-drop}
+use lib.Seq.{take-suc, take-suc-set, take-at, drop-at, drop-drop, take-add, take-length, length-take-le}
 use lib.Dec.{eqb}
-use borrow.Author.Tests.{eqb-true}
-use Rattle.line.specs.Tab.{tabFrom}
-use Rattle.e1.specs.Payload.{sized}
+use borrow.Author.Tests.{eqb-true, ne-eqb}
+use Rattle.line.specs.Tab.{tabFrom, tab}
+use Rattle.line.specs.TabLaws.{getD-tab, tab-agree}
+use Rattle.e1.specs.Answer.{if_then_else_}
+use Rattle.e1.specs.Payload.{indexOf, frameOf, slotOf, sized}
 use Rattle.exchange.specs.Laws.{refused-mapping}
-use Rattle.exchange.specs.Mapping.{mappedPayload, mapNumber, Mapped}
-use Rattle.exchange.specs.MapLaws.{mapped-length, mapped-append, accepted-mapping}
+use Rattle.exchange.specs.Mapping.{entryUsed, entryAt, slotOctet, mappedPayload, mapNumber, Mapped}
+use Rattle.exchange.specs.MapLaws.{entry-within, entry-small, octetOf, mapped-length, mapped-append, accepted-mapping}
+
+-- a frame with 255 before its slots: one slot more of it, and its octet by an entry
+pub slots-more : (p xs : List ℕ) (j : ℕ) → j + 1 < length xs → j < length p → take (j + 1) xs ≡ take (j + 1) (255 ∷ p)
+    → take (j + 1 + 1) (set xs (j + 1) (getD p j 0)) ≡ take (j + 1 + 1) (255 ∷ p)
+slots-more p xs j h l e =
+    let k : j + 1 < length (255 ∷ p) = omega arith in
+    let v : getD p j 0 ≡ getD (255 ∷ p) (j + 1) 0 = rw add-one in
+    rw (v, add-one (j + 1), take-suc-set xs (j + 1) (getD (255 ∷ p) (j + 1) 0) h, e) (sym (take-suc (255 ∷ p) (j + 1) 0 k))
+
+slot-of-entry : (p : List ℕ) (e : ℕ) → getD (255 ∷ p) e 0 ≡ (if eqb e 0 then 255 else getD p (indexOf 0 e) 0)
+slot-of-entry p zero = refl
+slot-of-entry p (suc e) = let i : indexOf 0 (suc e) ≡ e = omega arith in rw (ne-eqb (suc e) 0 (λ q. omega arith), i)
+
+pub slot-taken : (m p : List ℕ) (i : ℕ) → i < 31 → getD m (i + 1) 0 ≤ 31 → getD (255 ∷ p) (getD m (i + 1) 0) 0 ≡ octetOf m p i
+unfolding slotOctet
+slot-taken m p i l h =
+    let f : frameOf i ≡ 0 = omega arith in
+    let j : slotOf i ≡ i + 1 = omega arith in
+    rw (f, j, entry-within (getD m (i + 1) 0) h) (slot-of-entry p (getD m (i + 1) 0))
+
+-- entries as they are used map as the map does
+pub entries-small : (m m' : List ℕ) → m' ≡ tab 32 (entryAt m) → (j : ℕ) → j < 32 → getD m' j 0 ≤ 31
+entries-small m m' e j h = rw (e, getD-tab 32 (entryAt m) j 0 h) (entry-small (getD m j 0))
+
+pub entries-same : (m m' p : List ℕ) → m' ≡ tab 32 (entryAt m) → mappedPayload m' p ≡ mappedPayload m p
+unfolding mappedPayload slotOctet
+entries-same m m' p e =
+    tab-agree (length p) (octetOf m' p) (octetOf m p)
+    (λ i h.
+    let j = slotOf i in
+    let g : getD m' j 0 ≡ entryAt m j = rw e (getD-tab 32 (entryAt m) j 0 (omega arith)) in
+    let u : entryAt m' j ≡ entryAt m j = ap entryUsed g ∙ entry-within (entryAt m j) (entry-small (getD m j 0)) in
+    ap (λ x. if eqb x 0 then 255 else getD p (indexOf (frameOf i) x) 0) u)
 
 -- the output where its first n octets are p and the rest is d's: the next k are put in as q
 graft : (p d q : List ℕ) (n k : ℕ) → length p ≡ n

@@ -1,8 +1,10 @@
 // The map and the key.
 ghost use mathlib.Core.Path.{_≡_};
-ghost use Prim.Native.Nat.{_≤_};
-ghost use lib.ListN.{length};
-ghost use Rattle.exchange.specs.Mapping.{entryUsed, slotOctet, mappedPayload, Mapped};
+ghost use mathlib.Core.List.{_∷_};
+ghost use Prim.Native.Nat.{ℕ, _<_, _≤_};
+ghost use lib.ListN.{length, getD};
+ghost use Rattle.line.specs.Tab.{tab};
+ghost use Rattle.exchange.specs.Mapping.{entryUsed, entryAt, mappedPayload, Mapped};
 ghost use Rattle.exchange.specs.Machine.{startState, accept, refuse, keyed, bounded};
 ghost use Rattle.exchange.specs.Machine.{between, outside, locked, unstaged, hostNumber};
 ghost use Rattle.exchange.specs.Machine.{stage, commit, discard, hostAfter, hostEntry, hosted};
@@ -231,25 +233,39 @@ pub fn boundary(state: State) -> Answered
     accepted(s, 0)
 }
 
-// output slot j of a frame
-fn slot_octet(map: &[u8; 32], frame: &[u8], j: usize) -> u8
-    requires { ⌜ (1 ≤ j) × (j ≤ 31) × (length (now frame) ≡ 31) ⌝ }
-    ensures { λ r. ⌜ r ≡ slotOctet (now (map .entry)) (now (frame .entry)) 0 j ⌝ }
+// the entries of a map as they are used, worked out once for all frames
+fn entries(map: &[u8; 32]) -> [u8; 32]
+    ensures { λ r. ⌜ r ≡ tab 32 (entryAt (now (map .entry))) ⌝ }
 {
-    let entry = used(map[j]) as usize;
-    if entry == 0 {
-        return 255;
+    let mut entries = [0; 32];
+    for j in 0..32 {
+        entries[j] = used(map[j]);
     }
-    frame[entry - 1]
+    entries
 }
 
-// a frame through a map
+// a frame by its slots, with 255 at 0: an entry is an index
+fn slots(frame: &[u8]) -> [u8; 32]
+    requires { ⌜ length (now frame) ≡ 31 ⌝ }
+    ensures { λ r. ⌜ r ≡ 255 ∷ now (frame .entry) ⌝ }
+{
+    let mut slots = [255; 32];
+    for j in 0..31 {
+        slots[j + 1] = frame[j];
+    }
+    slots
+}
+
+// a frame through a map that has no entry over 31
 fn map_frame(map: &[u8; 32], frame: &[u8], out: &mut [u8])
-    requires { ⌜ (length (now frame) ≡ 31) × (length (now out) ≡ 31) ⌝ }
+    requires { ⌜ ((j : ℕ) → j < 32 → getD (now map) j 0 ≤ 31) × (length (now frame) ≡ 31) × (length (now out) ≡ 31) ⌝ }
     ensures { λ _. ⌜ now (out .exit) ≡ mappedPayload (now (map .entry)) (now (frame .entry)) ⌝ }
 {
+    let slots = slots(frame);
     for i in 0..31 {
-        out[i] = slot_octet(map, frame, i + 1);
+        let j = i + 1;
+        let entry = map[j] as usize;
+        out[i] = slots[entry];
     }
 }
 
@@ -264,7 +280,8 @@ pub fn map_payload(state: State, payload: &[u8], out: &mut [u8]) -> u64
     if out.len() < n {
         return 4;
     }
-    let map = state.live;
+    let live = state.live;
+    let map = entries(&live);
     for f in 0..n / 31 {
         let at = 31 * f;
         map_frame(&map, &payload[at..at + 31], &mut out[at..at + 31]);

@@ -1,35 +1,20 @@
 -- Octets, and slots frame after frame, as the loops write them.
-use Prim.Native.Nat.{ℕ, suc, _+_, _-_, _*_, _/_, _%_, _^_, _≤_, _<_}
+use Prim.Native.Nat.{ℕ, suc, _+_, _-_, _*_, _≤_, _<_}
 use mathlib.Core.Path.{_≡_, refl, sym, ap, ap₂, _∙_}
 use mathlib.Core.List.{List, [], _∷_, _++_, append-assoc}
 use native.Mathlib.Omega.{arith}
 use native.Mathlib.Numerals.{add-one}
 use borrow.Rule.Slice.PartMut.{putMid, drop-put}
-use lib.Bits.{bitAnd, bitOr, and-mask}
 use lib.ListN.{length, getD, take, drop, set, take-append-drop}
-use lib.Seq.{take-all, set-at, drop-cons, drop-drop}
+use lib.Seq.{take-all, take-take, take-at, set-at, drop-cons, drop-drop}
 use Rattle.line.specs.Bit.{octetAt}
-use Rattle.line.specs.BitLaws.{octet-one, octet-shifts}
 use Rattle.line.specs.Tab.{tab, tabFrom}
-use Rattle.line.specs.TabLaws.{tab-more, tab-agree, tab-split, fill-more, tab-fill}
+use Rattle.line.specs.TabLaws.{length-tab, tab-more, tab-agree, tab-split, fill-more, tab-fill}
 use Rattle.line.specs.PartLaws.{take-put-more}
 use Rattle.e1.specs.Frame.{frame, slot}
 use Rattle.e1.specs.Payload.{frameOf, slotOf}
 use Rattle.read.specs.Reading.{slots, slots0}
 use Rattle.read.specs.Laws.{slots-length, slots0-length}
-
--- octet i of the image, and eight bits from its bit o on
-pub octet-whole : (s : List ℕ) (i : ℕ) → getD s i 0 < 2 ^ 8 → getD s i 0 ≡ octetAt s (8 * i)
-octet-whole s i h =
-    let d : 8 * i / 8 ≡ i = omega arith in
-    rw d at (octet-one s (8 * i) (and-mask (8 * i) 3 ∙ omega arith) (rw d h))
-
-pub octet-joined : (s : List ℕ) (i o : ℕ) → o < 8 → getD s (i + 1) 0 < 2 ^ 8
-    → bitOr (getD s i 0 * 2 ^ o % 256) (getD s (i + 1) 0 / 2 ^ (8 - o)) ≡ octetAt s (8 * i + o)
-octet-joined s i o h k =
-    let d : (8 * i + o) / 8 ≡ i = omega arith in
-    let m : bitAnd (8 * i + o) 7 ≡ o = and-mask (8 * i + o) 3 ∙ omega arith in
-    rw (d, m) at (octet-shifts s (8 * i + o) (rw d k))
 
 -- one octet more of a table
 pub octet-more : (out : List ℕ) (j v : ℕ) (f : ℕ → ℕ) → j < length out → v ≡ f j → take j out ≡ tab j f → take (j + 1) (set out j v) ≡ tab (j + 1) f
@@ -38,17 +23,33 @@ octet-more out j v f h e t = ap (λ x. take (j + 1) (set out j x)) e ∙ fill-mo
 pub octets-full : (out : List ℕ) (j n : ℕ) (f : ℕ → ℕ) → j ≡ n → length out ≤ n → take j out ≡ tab j f → out ≡ tab n f
 octets-full out j n f e l t = tab-fill out n f l (rw e at t)
 
+-- fewer of them
+take-fewer : (out : List ℕ) (f : ℕ → ℕ) (a c : ℕ) → a ≤ c → take c out ≡ tab c f → take a out ≡ tab a f
+take-fewer out f a c l t =
+    let e : a + (c - a) ≡ c = omega arith in
+    sym (take-take a c out l)
+    ∙ ap (take a) (t ∙ ap (λ x. tab x f) (sym e) ∙ tab-split a (c - a) f)
+    ∙ take-at (tab a f) (tab (c - a) (λ i. f (a + i))) a (length-tab a f)
+
 -- Slots 1 to 31
 
-abbrev slotAt : List ℕ → ℕ → ℕ → ℕ
+abbrev pub slotAt : List ℕ → ℕ → ℕ → ℕ
 slotAt s q i = octetAt s (slot q (frameOf i) (slotOf i))
 
--- 31 octets from slot 1 on are a frame's
-pub frame-is : (s : List ℕ) (q : ℕ) (at : ℕ → ℕ) → ((j : ℕ) → j < 31 → at j ≡ q + 8 * (j + 1)) → tab 31 (λ j. octetAt s (at j)) ≡ slots s q 1
-unfolding slots
-frame-is s q at h =
-    tab-agree 31 (λ j. octetAt s (at j)) (slotAt s q)
-    (λ j l. let e : q + 8 * (j + 1) ≡ slot q (frameOf j) (slotOf j) = omega arith in ap (octetAt s) (h j l ∙ e))
+-- a frame's octets before c stand in xs; a run from octet a on is put back as ys
+pub run-more : (s : List ℕ) (q a c : ℕ) (xs ys : List ℕ) → a ≤ 15 → a ≤ c → a + 16 ≤ length xs → ys ≡ tab 16 (λ j. octetAt s (q + 8 * (a + 1) + 8 * j))
+    → take c xs ≡ tab c (slotAt s q) → (e : ℕ) → e ≡ a + 16 → take e (putMid a (a + 16 - a) xs ys) ≡ tab e (slotAt s q)
+run-more s q a c xs ys h l fits y t e p =
+    let f = slotAt s q in
+    let run : ℕ → ℕ = λ j. octetAt s (q + 8 * (a + 1) + 8 * j) in
+    let same : (j : ℕ) → j < 16 → run j ≡ f (a + j) =
+    λ j k. let g : q + 8 * (a + 1) + 8 * j ≡ slot q (frameOf (a + j)) (slotOf (a + j)) = omega arith in ap (octetAt s) g in
+    let long : length ys ≡ a + 16 - a = ap length y ∙ length-tab 16 run ∙ omega arith in
+    ap (λ x. take x (putMid a (a + 16 - a) xs ys)) p
+    ∙ take-put-more a (a + 16) xs ys (tab a f) (omega arith) fits long (take-fewer xs f a c l t)
+    ∙ ap (λ x. tab a f ++ x) (y ∙ tab-agree 16 run (λ j. f (a + j)) same)
+    ∙ sym (tab-split a 16 f)
+    ∙ ap (λ x. tab x f) (sym p)
 
 pub slots-none : (s : List ℕ) (q : ℕ) → slots s q 0 ≡ []
 unfolding slots tabFrom

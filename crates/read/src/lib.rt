@@ -83,38 +83,37 @@ fn track(s: &[u8], q: usize, m: usize) -> Tracked
     }
 }
 
-// 31 octets from octet i on
-fn straight(s: &[u8], i: usize, out: &mut [u8])
-    requires { ⌜ (i + 31 ≤ length (now s)) × (length (now out) ≡ 31) ⌝ }
-    ensures { λ _. ⌜ now (out .exit) ≡ tab 31 (λ j. octetAt (now (s .entry)) (8 * (i + j))) ⌝ }
+// the run of 16 octets from place p on, by value: it is read whole before any of it is written
+fn run_at(s: &[u8], p: usize) -> [u8; 16]
+    requires { ⌜ Room (now s) p 128 ⌝ }
+    ensures { λ r. ⌜ r ≡ tab 16 (λ j. octetAt (now (s .entry)) (p + 8 * j)) ⌝ }
 {
-    for j in 0..31 {
-        out[j] = s[i + j];
+    let mut octets = [0; 16];
+    for j in 0..16 {
+        octets[j] = line::octet(s, p + 8 * j);
+    }
+    octets
+}
+
+// the same, to its part of the output
+fn put_run(s: &[u8], p: usize, out: &mut [u8])
+    requires { ⌜ Room (now s) p 128 × (length (now out) ≡ 16) ⌝ }
+    ensures { λ _. ⌜ now (out .exit) ≡ tab 16 (λ j. octetAt (now (s .entry)) (p + 8 * j)) ⌝ }
+{
+    let octets = run_at(s, p);
+    for j in 0..16 {
+        out[j] = octets[j];
     }
 }
 
-// 31 octets from bit o of octet i on
-fn shifted(s: &[u8], i: usize, o: usize, out: &mut [u8])
-    requires { ⌜ (i + 32 ≤ length (now s)) × (1 ≤ o) × (o < 8) × (length (now out) ≡ 31) ⌝ }
-    ensures { λ _. ⌜ now (out .exit) ≡ tab 31 (λ j. octetAt (now (s .entry)) (8 * (i + j) + o)) ⌝ }
-{
-    let c = 8 - o;
-    for j in 0..31 {
-        out[j] = (s[i + j] << o) | (s[i + j + 1] >> c);
-    }
-}
-
-// slots 1 to 31 of the frame at q
+// slots 1 to 31 of the frame at q: two runs, which share slot 16
 fn frame(s: &[u8], q: usize, out: &mut [u8])
     requires { ⌜ Room (now s) q 256 × (length (now out) ≡ 31) ⌝ }
     ensures { λ _. ⌜ now (out .exit) ≡ slots (now (s .entry)) q 1 ⌝ }
 {
-    let i = (q >> 3) + 1;
-    let o = q & 7;
-    if o == 0 {
-        straight(s, i, out);
-    } else {
-        shifted(s, i, o, out);
+    for h in 0..2 {
+        let a = 15 * h;
+        put_run(s, q + 8 * (a + 1), &mut out[a..a + 16]);
     }
 }
 

@@ -43,14 +43,27 @@ fn slot_0(k: u8, f: usize, x: u8) -> u8
     128 * bit_1(f, x) + 64 + x % 64
 }
 
+// a frame's payload, by value: it is read whole before any of it is written
+fn taken(payload: &[u8]) -> [u8; 31]
+    requires { ⌜ length (now payload) ≡ 31 ⌝ }
+    ensures { λ r. ⌜ r ≡ now (payload .entry) ⌝ }
+{
+    let mut octets = [0; 31];
+    for j in 0..31 {
+        octets[j] = payload[j];
+    }
+    octets
+}
+
 // a frame: slot 0, and its payload in slots 1 to 31
 fn write_frame(slot: u8, payload: &[u8], out: &mut [u8])
     requires { ⌜ (length (now payload) ≡ 31) × (length (now out) ≡ 32) ⌝ }
     ensures { λ _. ⌜ now (out .exit) ≡ tab 32 (λ j. cond (eqb j 0) slot (getD (now (payload .entry)) (j - 1) 0)) ⌝ }
 {
+    let octets = taken(payload);
     out[0] = slot;
     for j in 1..32 {
-        out[j] = payload[j - 1];
+        out[j] = octets[j - 1];
     }
 }
 

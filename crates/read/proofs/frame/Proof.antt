@@ -1,34 +1,69 @@
--- `frame` meets its contract: the octets from slot 1 on, straight or shifted. Assumes nothing.
-use Prim.Native.Nat.{_+_, _*_, _/_}
-use mathlib.Core.Path.{_≡_, _∙_}
+-- `frame` meets its contract: at the head of the loop the octets of h runs are written, of which two share one. Assumes nothing.
+use Prim.Native.Nat.{ℕ, _+_, _≤_, _*_, _-_}
+use mathlib.Core.Path.{_≡_, refl, _∙_}
 use native.Mathlib.Omega.{arith}
-use borrow.Author.Needs.{needs}
-use lib.Bits.{bitAnd, and-mask}
-use Rattle.read.proofs.Slots.{frame-is}
+use lib.ListN.{length, take}
+use Rattle.line.specs.Tab.{tab, tabFrom}
+use Rattle.line.specs.PartLaws.{part-length}
+use Rattle.read.specs.Reading.{slots}
+use Rattle.read.proofs.Slots.{slotAt, run-more, octets-full}
 use Rattle.read.proofs.frame.Statement.{statement}
 use Rattle.read.proofs.frame.Tie as tie
 
-shifted-requires : tie.Need-shifted-requires
-shifted-requires c κs =
-    let d = c .before .before .before .before in
-    let m = and-mask (d .args .q) 3 in
-    let o : bitAnd (d .args .q) 7 ≡ 0 → ⊥ = c .before .if1 .left in
-    (omega (arith, o), omega (arith, o), omega arith, d .pre .1)
+-- how many octets h runs are
+abbrev octets : ℕ → ℕ
+octets h = 16 * h - (h - 1)
 
-returns : tie.Need-returns
+abbrev Inv-loop : tie.InvT-loop
+Inv-loop s q out₀ h₀ out h = (h ≤ 2) × (length out ≡ 31) × (take (octets h) out ≡ tab (octets h) (slotAt s q))
+
+abbrev μ-loop : tie.MeasureT-loop
+μ-loop s q out₀ h₀ out h = 2 - h
+
+put-run-requires : tie.Need-put-run-requires Inv-loop μ-loop
+put-run-requires c κs =
+    let l = c .before .before in
+    let a = 15 * l .loop .h in (
+      record { countable = l .before .before .before .pre .0 .countable; there = omega arith },
+      part-length a (a + 16) (l .loop .out) (omega arith) ∙ omega arith,
+    )
+
+loop-again : tie.Need-loop-again Inv-loop μ-loop
+loop-again c =
+    let w = c .before .before in
+    let l = w .before .before .before in
+    let a = l .before .before .before .args in
+    let h = l .loop .h in (
+      omega arith,
+      c .before .out .given .1 ∙ l .loop .inv .1,
+      run-more (a .s .now) (a .q) (15 * h) (octets h) (l .loop .out) (w .put-run .last .1 .1 .0) (omega arith) (omega arith) (omega arith) (w .put-run .ensures)
+          (l .loop .inv .2) (octets (h + 1)) (omega arith),
+    )
+
+returns : tie.Need-returns Inv-loop μ-loop
+unfolding slots
 returns c =
-    let w = c .before .before in
-    let a = w .before .before .before .before .before .args in
-    let m = and-mask (a .q) 3 in
-    let o : bitAnd (a .q) 7 ≡ 0 = w .before .before .if1 .taken in
-    w .straight .ensures ∙ frame-is (a .s .now) (a .q) (λ j. 8 * (a .q / 8 + 1 + j)) (λ j h. omega arith)
-
-returns-2 : tie.Need-returns-2
-returns-2 c =
-    let w = c .before .before in
-    let a = w .before .before .before .before .before .args in
-    let m = and-mask (a .q) 3 in
-    w .shifted .ensures ∙ frame-is (a .s .now) (a .q) (λ j. 8 * (a .q / 8 + 1 + j) + bitAnd (a .q) 7) (λ j h. omega arith)
+    let l = c .before in
+    let a = l .before .before .before .args in
+    octets-full (l .loop .out) (octets (l .loop .h)) 31 (slotAt (a .s .now) (a .q)) (omega arith) (omega arith) (l .loop .inv .2)
 
 pub frame-spec : {M : Type 1} → statement M
-frame-spec = tie.close (tie.spec (search needs) (search needs) shifted-requires (search needs) returns (search needs) returns-2)
+unfolding tabFrom
+frame-spec =
+    tie.close
+    (tie.spec Inv-loop μ-loop
+    (λ c. (omega arith, omega arith, refl))
+    (omega arith)
+    (omega arith)
+    (omega arith)
+    (omega arith)
+    (omega arith)
+    (omega arith)
+    (omega arith)
+    (omega arith)
+    put-run-requires
+    (omega arith)
+    (omega arith)
+    loop-again
+    (omega arith)
+    returns)
