@@ -8,7 +8,7 @@ use crate::print::text;
 use exchange::State;
 ghost use Prim.Native.Nat.{_≤_};
 
-// A call: its letter, and at most five numbers.
+// A call: its letter, and at most five numbers, of at most six digits.
 struct Call {
     letter: u8,
     count: usize,
@@ -86,7 +86,7 @@ fn low(n: u64) -> u8 {
     (n % 256) as u8
 }
 
-// the call is made on the state, and its line printed
+// the call is made, and its line printed
 fn run_call(name: &[u8], state: State, call: Call) -> State
     requires { ⌜ call .count ≤ 5 ⌝ }
 {
@@ -173,6 +173,7 @@ fn refused_run() {
         b"h; h 3 5 0; h 3 5 0 0 0; h 0 0 0 0; h 5 0 32 0; h 255 5 9 0; h 1 0 9 0; h 1 32 9 0; h 1 5 32 0; h 3 0 0 0; \
         h 3 32 0 0; h 1 5 9 0; h 2 0 32 0; h 4 255 255 0; h 3 31 255 7; k 2;",
     );
+    // more digits than a text's number has
     let t = key(b"refused", s, 18446744073709551615);
     calls(
         b"refused",

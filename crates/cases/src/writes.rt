@@ -9,17 +9,17 @@ use crate::print::text;
 ghost use Prim.Native.Nat.{_<_, _≤_};
 
 // what a write answers, and the digest of its output
-fn show(label: &[u8], payload: &[u8], overhead: &[u8], check: u64, out: &mut [u8]) {
-    let w = write::write(payload, overhead, check, out);
+fn show(label: &[u8], w: write::Written, out: &[u8]) {
     text(label);
-    show_written(w, out);
-}
-
-fn show_written(w: write::Written, out: &[u8]) {
     field(b": ", w.number);
     field(b" check ", w.check);
     digest(b" out ", out);
     text(b"\n");
+}
+
+fn write_octets(label: &[u8], payload: &[u8], overhead: &[u8], check: u64, out: &mut [u8]) {
+    let w = write::write(payload, overhead, check, out);
+    show(label, w, out);
 }
 
 // p octets of the payload and h of an overhead, into an output of e octets
@@ -28,9 +28,10 @@ fn write_with(label: &[u8], overhead: [u8; 136], p: usize, h: usize, check: u64,
 {
     let octets = payload();
     let mut out = [BEFORE; 8704];
-    show(label, &octets[0..p], &overhead[0..h], check, &mut out[0..e]);
+    write_octets(label, &octets[0..p], &overhead[0..h], check, &mut out[0..e]);
 }
 
+// with the overhead of the cases
 fn write_into(label: &[u8], p: usize, h: usize, check: u64, e: usize)
     requires { ⌜ (p ≤ 8432) × (h ≤ 136) × (e ≤ 8704) ⌝ }
 {
@@ -50,9 +51,10 @@ fn checks() {
     }
 }
 
+// all octets of the payload alike
 fn write_alike(label: &[u8], octet: u8, overhead: [u8; 8], check: u64) {
     let mut out = [BEFORE; 512];
-    show(label, &[octet; 496], &overhead, check, &mut out);
+    write_octets(label, &[octet; 496], &overhead, check, &mut out);
 }
 
 fn ends() {
@@ -134,8 +136,7 @@ fn rows() {
     let w = a.written;
     let b = extend(out, w.check, 1);
     let line = b.out;
-    text(b"row of two");
-    show_written(b.written, &line);
+    show(b"row of two", b.written, &line);
     write_into(b"row at once", 992, 16, 5, 1024);
 }
 

@@ -11,6 +11,7 @@ use lib.Dec.{eqb}
 use borrow.Author.Tests.{eqb-true, ne-eqb}
 use Rattle.line.specs.Tab.{tabFrom, tab}
 use Rattle.line.specs.TabLaws.{getD-tab, tab-agree}
+use Rattle.line.specs.PartLaws.{copy-more}
 use Rattle.e1.specs.Answer.{if_then_else_}
 use Rattle.e1.specs.Payload.{indexOf, frameOf, slotOf, sized}
 use Rattle.exchange.specs.Laws.{refused-mapping}
@@ -23,7 +24,7 @@ pub slots-more : (p xs : List ℕ) (j : ℕ) → j + 1 < length xs → j < lengt
 slots-more p xs j h l e =
     let k : j + 1 < length (255 ∷ p) = omega arith in
     let v : getD p j 0 ≡ getD (255 ∷ p) (j + 1) 0 = rw add-one in
-    rw (v, add-one (j + 1), take-suc-set xs (j + 1) (getD (255 ∷ p) (j + 1) 0) h, e) (sym (take-suc (255 ∷ p) (j + 1) 0 k))
+    rw v (copy-more xs (255 ∷ p) (j + 1) h k e)
 
 slot-of-entry : (p : List ℕ) (e : ℕ) → getD (255 ∷ p) e 0 ≡ (if eqb e 0 then 255 else getD p (indexOf 0 e) 0)
 slot-of-entry p zero = refl

@@ -1,10 +1,10 @@
 -- `slots` meets its contract. At the loop's head the slots below j + 1 are there.
 use Prim.Native.Nat.{ℕ, _+_, _≤_, _-_}
-use mathlib.Core.Path.{_≡_, refl, sym, _∙_}
+use mathlib.Core.Path.{_≡_, refl}
 use mathlib.Core.List.{List, _∷_}
 use native.Mathlib.Omega.{arith}
 use lib.ListN.{length, take, length-set}
-use lib.Seq.{take-all}
+use Rattle.line.specs.PartLaws.{copy-done}
 use Rattle.exchange.proofs.Parts.{slots-more}
 use Rattle.exchange.proofs.slots.Statement.{statement}
 use Rattle.exchange.proofs.slots.Tie as tie
@@ -28,7 +28,7 @@ returns : tie.Need-returns Inv-loop μ-loop
 returns c =
     let l = c .before .loop in
     let whole : List ℕ = 255 ∷ c .before .before .args .frame .now in
-    sym (take-all (l .j + 1) (l .slots) (omega arith)) ∙ l .inv .2 ∙ take-all (l .j + 1) whole (omega arith)
+    copy-done (l .slots) whole (l .j + 1) (omega arith) (omega arith) (l .inv .2)
 
 pub slots-spec : {M : Type 1} → statement M
 slots-spec =

@@ -1,11 +1,10 @@
 -- `copy` meets its contract. At the loop's head the first i octets are copied.
 use Prim.Native.Nat.{_≤_, _-_}
-use mathlib.Core.Path.{_≡_, refl, sym, _∙_}
+use mathlib.Core.Path.{_≡_, refl}
 use native.Mathlib.Omega.{arith}
 use lib.ListN.{length, take, length-set}
-use lib.Seq.{take-all, take-suc, take-suc-set}
-use native.Mathlib.Numerals.{add-one}
 use denote.Ref.{now}
+use Rattle.line.specs.PartLaws.{copy-more, copy-done}
 use Rattle.kit.proofs.copy.Statement.{statement}
 use Rattle.kit.proofs.copy.Tie as tie
 
@@ -21,14 +20,14 @@ loop-again c =
     let from = now (c .before .before .before .args .from) in (
       omega arith,
       simp length-set (l .inv .1),
-      rw (add-one, take-suc-set (l .to) (l .i) _ (omega arith), l .inv .2) (sym (take-suc from (l .i) 0 (omega arith))),
+      copy-more (l .to) from (l .i) (omega arith) (omega arith) (l .inv .2),
     )
 
 returns : tie.Need-returns Inv-loop μ-loop
 returns c =
     let l = c .before .loop in
     let from = now (c .before .before .args .from) in
-    sym (take-all (l .i) (l .to) (omega arith)) ∙ l .inv .2 ∙ take-all (l .i) from (omega arith)
+    copy-done (l .to) from (l .i) (omega arith) (omega arith) (l .inv .2)
 
 pub copy-spec : {M : Type 1} → statement M
 copy-spec =

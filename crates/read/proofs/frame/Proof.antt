@@ -1,4 +1,4 @@
--- `frame` meets its contract: at the head of the loop the octets of h runs are written, of which two share one. Assumes nothing.
+-- `frame` meets its contract: at the head of the loop the octets of h runs are written, of which two share one.
 use Prim.Native.Nat.{ℕ, _+_, _≤_, _*_, _-_}
 use mathlib.Core.Path.{_≡_, refl, _∙_}
 use native.Mathlib.Omega.{arith}

@@ -1,4 +1,4 @@
--- `judge` meets its contract: at the head of the loop the two counts are those of the blocks before b. Assumes nothing.
+-- `judge` meets its contract: at the head of the loop the two counts are those of the blocks before b.
 use Prim.Native.Nat.{_≤_, _-_}
 use mathlib.Core.Path.{sym, _∙_}
 use mathlib.Core.Logic.{⊎-elim}

@@ -1,4 +1,4 @@
--- `multiframe` meets its contract: at the head of the loop the frames before f are written. Assumes nothing.
+-- `multiframe` meets its contract: at the head of the loop the frames before f are written.
 use Prim.Native.Nat.{_+_, _≤_, _*_, _-_}
 use mathlib.Core.Path.{_≡_, refl, sym, _∙_}
 use native.Mathlib.Omega.{arith}

@@ -1,4 +1,4 @@
--- `payload_of` meets its contract: at the head of the loop the multiframes before m are written, and the rest is as it was. Assumes nothing.
+-- `payload_of` meets its contract: at the head of the loop the multiframes before m are written, and the rest is as it was.
 use Prim.Native.Nat.{_+_, _≤_, _*_, _-_}
 use mathlib.Core.Path.{_≡_, refl, sym, _∙_}
 use native.Mathlib.Omega.{arith}

@@ -1,11 +1,10 @@
--- `put_run` meets its contract: at the head of the loop the octets before j are written. Assumes nothing.
+-- `put_run` meets its contract: at the head of the loop the octets before j are written.
 use Prim.Native.Nat.{_≤_, _-_}
-use mathlib.Core.Path.{_≡_, refl, sym, _∙_}
+use mathlib.Core.Path.{_≡_, refl, _∙_}
 use native.Mathlib.Omega.{arith}
-use native.Mathlib.Numerals.{add-one}
 use borrow.Author.Needs.{needs}
 use lib.ListN.{length, take, length-set}
-use lib.Seq.{take-all, take-suc, take-suc-set}
+use Rattle.line.specs.PartLaws.{copy-more, copy-done}
 use Rattle.read.proofs.put_run.Statement.{statement}
 use Rattle.read.proofs.put_run.Tie as tie
 
@@ -21,14 +20,14 @@ loop-again c =
     let octets = c .before .before .run-at .result in (
       omega arith,
       simp length-set (l .inv .1),
-      rw (add-one, take-suc-set (l .out) (l .j) _ (omega arith), l .inv .2) (sym (take-suc octets (l .j) 0 (omega arith))),
+      copy-more (l .out) octets (l .j) (omega arith) (omega arith) (l .inv .2),
     )
 
 returns : tie.Need-returns Inv-loop μ-loop
 returns c =
     let l = c .before .loop in
     let w = c .before .before .run-at in
-    sym (take-all (l .j) (l .out) (omega arith)) ∙ l .inv .2 ∙ take-all (l .j) (w .result) (omega arith) ∙ w .ensures
+    copy-done (l .out) (w .result) (l .j) (omega arith) (omega arith) (l .inv .2) ∙ w .ensures
 
 pub put-run-spec : {M : Type 1} → statement M
 put-run-spec =

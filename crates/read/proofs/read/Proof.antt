@@ -1,4 +1,4 @@
--- `read` meets its contract: the refusals in their order, and what is read from the place that is found. Assumes nothing.
+-- `read` meets its contract: the refusals in their order, and what is read from the place that is found.
 use mathlib.Core.Path.{sym, _∙_}
 use native.Mathlib.Omega.{arith}
 use borrow.Author.Needs.{needs}

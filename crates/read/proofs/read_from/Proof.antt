@@ -1,4 +1,4 @@
--- `read_from` meets its contract: number 4, or all that is measured, written and counted from the start. Assumes nothing.
+-- `read_from` meets its contract: number 4, or all that is measured, written and counted from the start.
 use Prim.Native.Nat.{_+_, _-_, _*_, _/_, _≤_}
 use mathlib.Core.Path.{refl}
 use mathlib.Mathlib.Data.Bool.Basic.{or-eq-false-eq-eq-false-and-eq-false}

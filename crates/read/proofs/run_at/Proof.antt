@@ -1,4 +1,4 @@
--- `run_at` meets its contract: at the head of the loop the octets before j are taken. Assumes nothing.
+-- `run_at` meets its contract: at the head of the loop the octets before j are taken.
 use Prim.Native.Nat.{_+_, _≤_, _*_, _-_}
 use mathlib.Core.Path.{_≡_, refl}
 use native.Mathlib.Omega.{arith}

@@ -1,4 +1,4 @@
--- `slot0_of` meets its contract: at the head of the loop the slots 0 before frame f are written, and the rest is as it was. Assumes nothing.
+-- `slot0_of` meets its contract: at the head of the loop the slots 0 before frame f are written, and the rest is as it was.
 use Prim.Native.Nat.{_+_, _≤_, _*_, _-_}
 use mathlib.Core.Path.{_≡_, refl, _∙_, ap}
 use mathlib.Core.List.{_++_}

@@ -1,4 +1,4 @@
--- `track` meets its contract: at the head of the loop the words before that of frame 2i are passed, and no loss is among them. Assumes nothing.
+-- `track` meets its contract: at the head of the loop the words before that of frame 2i are passed, and no loss is among them.
 use Prim.Native.Nat.{_+_, _≤_, _*_, _-_, _/_}
 use mathlib.Core.Path.{_≡_, sym, ap, _∙_}
 use mathlib.Core.Logic.{⊎-elim}

@@ -1,10 +1,9 @@
 -- `taken` meets its contract: at the head of the loop the octets before j are taken.
 use Prim.Native.Nat.{_-_, _≤_}
-use mathlib.Core.Path.{_≡_, refl, sym, _∙_}
+use mathlib.Core.Path.{_≡_, refl}
 use native.Mathlib.Omega.{arith}
-use native.Mathlib.Numerals.{add-one}
 use lib.ListN.{length, take, length-set}
-use lib.Seq.{take-all, take-suc, take-suc-set}
+use Rattle.line.specs.PartLaws.{copy-more, copy-done}
 use Rattle.write.proofs.taken.Statement.{statement}
 use Rattle.write.proofs.taken.Tie as tie
 
@@ -20,14 +19,14 @@ loop-again c =
     let payload = c .before .before .before .args .payload .now in (
       omega arith,
       simp length-set (l .inv .1),
-      rw (add-one, take-suc-set (l .octets) (l .j) _ (omega arith), l .inv .2) (sym (take-suc payload (l .j) 0 (omega arith))),
+      copy-more (l .octets) payload (l .j) (omega arith) (omega arith) (l .inv .2),
     )
 
 returns : tie.Need-returns Inv-loop μ-loop
 returns c =
     let l = c .before .loop in
     let payload = c .before .before .args .payload .now in
-    sym (take-all (l .j) (l .octets) (omega arith)) ∙ l .inv .2 ∙ take-all (l .j) payload (omega arith)
+    copy-done (l .octets) payload (l .j) (omega arith) (omega arith) (l .inv .2)
 
 pub taken-spec : {M : Type 1} → statement M
 taken-spec =
