@@ -9,7 +9,7 @@ use lib.Bits.{bitAnd, bitOr, and-mask, or-shifted}
 use lib.ListN.{getD}
 use lib.Pow.{high, low, shr-shr, mod-pow-add, shl-shr, shr-mod, shr-lt}
 use Rattle.line.specs.Tab.{tab}
-use Rattle.line.specs.TabLaws.{getD-tab, tab-agree}
+use Rattle.line.specs.TabLaws.{tab-agree}
 use Rattle.line.specs.Bit.{bitAt, field, octetAt, octetBits}
 
 pub bit-lt : (s : List ℕ) (p : ℕ) → bitAt s p < 2
@@ -96,11 +96,6 @@ octet-one s p e h =
 pub word-of : (s : List ℕ) (p : ℕ) → bitAnd (octetAt s p) 127 ≡ field s (p + 1) 7
 unfolding field
 word-of s p = and-mask (octetAt s p) 7 ∙ omega (arith, field-add s p 1 7, field-lt s (p + 1) 7)
-
--- the bits of a table of octets
-pub bit-tab : (n : ℕ) (f : ℕ → ℕ) (p : ℕ) → p / 8 < n → bitAt (tab n f) p ≡ f (p / 8) / 2 ^ (7 - p % 8) % 2
-unfolding bitAt
-bit-tab n f p h = rw (getD-tab n f (p / 8) 0 h)
 
 -- of a + n + m bits the n that have m behind them
 pub field-within : (s : List ℕ) (p a n m : ℕ) → field s p (a + n + m) / 2 ^ m % 2 ^ n ≡ field s (p + a) n

@@ -41,14 +41,6 @@ told false false false few = (refl, refl, refl)
 told false false true true = (refl, refl, refl, refl)
 told false false true false = (refl, refl, refl, refl)
 
-listed : (n : ℕ) (short long stood few : Bool) → Tells n short long stood few → n ≤ 4
-listed zero short long stood few t = omega arith
-listed (suc zero) short long stood few t = omega arith
-listed (suc (suc zero)) short long stood few t = omega arith
-listed (suc (suc (suc zero))) short long stood few t = omega arith
-listed (suc (suc (suc (suc zero)))) short long stood few t = omega arith
-listed (suc (suc (suc (suc (suc n))))) short long stood few t = absurd t
-
 some-stands : (o : Option Standing) → stands o ≡ true → (w : Standing) × (o ≡ some w)
 some-stands (some w) e = (w, refl)
 some-stands none e = let z : _≡_ {A = ℕ} 0 1 = ap (λ t. cond t 1 0) e in absurd (omega arith)
@@ -65,9 +57,6 @@ module _ (s : List ℕ) (a b : ℕ) where
   tells : Tells (refusal s a b) (ltb (length s) 2048) (ltb 8192 (length s)) (stands (firstStanding s)) shortOutput
   unfolding refusal
   tells = told (ltb (length s) 2048) (ltb 8192 (length s)) (stands (firstStanding s)) shortOutput
-
-  pub number-listed : refusal s a b ≤ 4
-  number-listed = listed (refusal s a b) _ _ _ _ tells
 
   pub number-1 : refusal s a b ≡ 1 ↔ length s < 2048
   unfolding refusal
