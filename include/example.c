@@ -1,8 +1,8 @@
 /*
  * Reads a line, from the file that is named or from standard input, and prints its report.
  *
- *   rt staticlib kit
- *   gcc -std=c99 -Wall -Wextra -Werror -Iinclude include/example.c target/staticlib/libkit.a -o example
+ *   rt staticlib jikhvanto
+ *   gcc -std=c99 -Wall -Wextra -Werror -Iinclude include/example.c target/staticlib/libjikhvanto.a -o example
  */
 #include <stdio.h>
 #include "jikhvanto.h"

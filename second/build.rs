@@ -9,16 +9,16 @@ const LEFT: &str = "only `--lib`, `--bin cases` and `--bin marks` link";
 
 fn main() {
     let folder = Path::new(&env::var("CARGO_MANIFEST_DIR").unwrap()).join("../target/staticlib");
-    let library = folder.join("libkit.a");
+    let library = folder.join("libjikhvanto.a");
     // The folder too, for a library put back is no newer than it was.
     println!("cargo:rerun-if-changed={}", folder.display());
     println!("cargo:rerun-if-changed={}", library.display());
     if env::var("CARGO_CFG_TARGET_ARCH").unwrap() != "x86_64" {
         println!("cargo:warning=the proved library is x86-64 code: here {LEFT}; `./run test` has the rest");
     } else if !library.exists() {
-        println!("cargo:warning=no ../target/staticlib/libkit.a: `rt staticlib kit` makes it; until then {LEFT}");
+        println!("cargo:warning=no ../target/staticlib/libjikhvanto.a: `rt staticlib jikhvanto` makes it; until then {LEFT}");
     } else {
         println!("cargo:rustc-link-search=native={}", folder.display());
-        println!("cargo:rustc-link-lib=static=kit");
+        println!("cargo:rustc-link-lib=static=jikhvanto");
     }
 }

@@ -1,0 +1,9 @@
+-- `give_pair` meets its contract.
+use borrow.Author.Needs.{needs}
+use Rattle.jikhvanto.specs.Octets.{pairPlaces}
+use Rattle.jikhvanto.proofs.give_pair.Statement.{statement}
+use Rattle.jikhvanto.proofs.give_pair.Tie as tie
+
+pub give-pair-spec : {M : Type 1} → statement M
+unfolding pairPlaces
+give-pair-spec = tie.close (tie.spec (search needs) (search needs) (search needs))

@@ -1,0 +1,176 @@
+// The C interface: each entry of the kit, over a state in lent octets and an answer in lent places.
+ghost use mathlib.Core.Path.{_≡_};
+ghost use Prim.Native.Nat.{_+_, _≤_};
+ghost use lib.ListN.{length};
+ghost use Rattle.jikhvanto.specs.Octets.{mapAt, stateOf, octetsOf, stored, readingPlaces, pairPlaces};
+ghost use Rattle.jikhvanto.specs.Calls.{JkRead, JkWrite, JkStart, JkHost, JkKey, JkBoundary, JkMap};
+use exchange::Answered;
+use exchange::State;
+use read::Reading;
+
+// a map, from 32 octets to 32 others
+fn copy(from: &[u8], to: &mut [u8])
+    requires { ⌜ (length (now from) ≡ 32) × (length (now to) ≡ 32) ⌝ }
+    ensures { λ _. ⌜ now (to .exit) ≡ now (from .entry) ⌝ }
+{
+    for i in 0..32 {
+        to[i] = from[i];
+    }
+}
+
+// the 32 octets of a map
+fn map_at(octets: &[u8], at: usize) -> [u8; 32]
+    requires { ⌜ at + 32 ≤ length (now octets) ⌝ }
+    ensures { λ r. ⌜ r ≡ mapAt at (now (octets .entry)) ⌝ }
+{
+    let mut map = [0; 32];
+    copy(&octets[at..at + 32], &mut map);
+    map
+}
+
+// the state that the octets are
+fn unpack(octets: &[u8; 99]) -> State
+    ensures { λ r. ⌜ r ≡ stateOf (now (octets .entry)) ⌝ }
+{
+    let live = map_at(octets, 3);
+    let staged = map_at(octets, 35);
+    let waiting = map_at(octets, 67);
+    State {
+        flag: octets[0] == 1,
+        staging: octets[1] == 1,
+        pending: octets[2] == 1,
+        live,
+        staged,
+        waiting,
+    }
+}
+
+// the octets of a state
+fn pack(state: State) -> [u8; 99]
+    ensures { λ r. ⌜ r ≡ octetsOf state ⌝ }
+{
+    let live = state.live;
+    let staged = state.staged;
+    let waiting = state.waiting;
+    let mut octets = [0; 99];
+    octets[0] = state.flag as u8;
+    octets[1] = state.staging as u8;
+    octets[2] = state.pending as u8;
+    copy(&live, &mut octets[3..35]);
+    copy(&staged, &mut octets[35..67]);
+    copy(&waiting, &mut octets[67..99]);
+    octets
+}
+
+// what a call of the machine answered, into the octets unless it is refused, and its number
+fn store(answered: Answered, octets: &mut [u8; 99]) -> u64
+    ensures { λ r. ⌜ (r ≡ answered .number) × (now (octets .exit) ≡ stored (now (octets .entry)) answered) ⌝ }
+{
+    let number = answered.number;
+    if number == 0 {
+        let state = answered.state;
+        *octets = pack(state);
+    }
+    number
+}
+
+// a reading, in its places
+fn give_reading(r: Reading, answer: &mut [u64; 16])
+    ensures { λ _. ⌜ now (answer .exit) ≡ readingPlaces r ⌝ }
+{
+    *answer = [0; 16];
+    answer[0] = r.number;
+    answer[1] = r.place as u64;
+    answer[2] = r.start as u64;
+    answer[3] = r.whole as u64;
+    answer[4] = r.used as u64;
+    answer[5] = r.lost as u64;
+    answer[6] = r.words as u64;
+    answer[7] = r.compared as u64;
+    answer[8] = r.errored as u64;
+    answer[9] = r.farend as u64;
+}
+
+// a number and one value, in theirs
+fn give_pair(number: u64, value: u64, answer: &mut [u64; 16])
+    ensures { λ _. ⌜ now (answer .exit) ≡ pairPlaces number value ⌝ }
+{
+    *answer = [0; 16];
+    answer[0] = number;
+    answer[1] = value;
+}
+
+// an image is read
+#[no_mangle]
+pub extern "C" fn jk_read(
+    image: &[u8],
+    payload: &mut [u8],
+    slot0: &mut [u8],
+    answer: &mut [u64; 16],
+) -> u64
+    ensures { λ r. ⌜ JkRead (now (image .entry)) (now (payload .entry)) (now (slot0 .entry))
+        r (now (payload .exit)) (now (slot0 .exit)) (now (answer .exit)) ⌝ }
+{
+    let r = read::read(image, payload, slot0);
+    give_reading(r, answer);
+    r.number
+}
+
+// multiframes are written
+#[no_mangle]
+pub extern "C" fn jk_write(
+    payload: &[u8],
+    overhead: &[u8],
+    check: u64,
+    out: &mut [u8],
+    answer: &mut [u64; 16],
+) -> u64
+    ensures { λ r. ⌜ JkWrite (now (payload .entry)) (now (overhead .entry)) check (now (out .entry))
+        r (now (out .exit)) (now (answer .exit)) ⌝ }
+{
+    let w = write::write(payload, overhead, check, out);
+    give_pair(w.number, w.check, answer);
+    w.number
+}
+
+// a state begins
+#[no_mangle]
+pub extern "C" fn jk_start(state: &mut [u8; 99])
+    ensures { λ _. ⌜ JkStart (now (state .exit)) ⌝ }
+{
+    *state = pack(exchange::start());
+}
+
+// a host record
+#[no_mangle]
+pub extern "C" fn jk_host(state: &mut [u8; 99], octets: &[u8], answer: &mut [u64; 16]) -> u64
+    ensures { λ r. ⌜ JkHost (now (state .entry)) (now (octets .entry)) r (now (state .exit)) (now (answer .exit)) ⌝ }
+{
+    let a = exchange::host(unpack(state), octets);
+    give_pair(a.number, a.entry as u64, answer);
+    store(a, state)
+}
+
+// the key, to a position
+#[no_mangle]
+pub extern "C" fn jk_key(state: &mut [u8; 99], position: u64) -> u64
+    ensures { λ r. ⌜ JkKey (now (state .entry)) position r (now (state .exit)) ⌝ }
+{
+    store(exchange::key(unpack(state), position), state)
+}
+
+// a multiframe boundary
+#[no_mangle]
+pub extern "C" fn jk_boundary(state: &mut [u8; 99]) -> u64
+    ensures { λ r. ⌜ JkBoundary (now (state .entry)) r (now (state .exit)) ⌝ }
+{
+    store(exchange::boundary(unpack(state)), state)
+}
+
+// a payload through the live map, the state only looked at
+#[no_mangle]
+pub extern "C" fn jk_map(state: &[u8; 99], payload: &[u8], out: &mut [u8]) -> u64
+    ensures { λ r. ⌜ JkMap (now (state .entry)) (now (payload .entry)) (now (out .entry)) r (now (out .exit)) ⌝ }
+{
+    exchange::map_payload(unpack(state), payload, out)
+}
