@@ -1,22 +1,20 @@
--- Blocks of G.704. A block is 8 frames, 2,048 bits: frames 0 to 7 of a multiframe, then 8 to 15; q is the place of its bit 0.
-use Prim.Native.Nat.{ℕ, _+_, _*_, _%_}
-use mathlib.Core.Bool.{Bool, cond}
+-- Blocks of G.704, 2.3.3.1 (KIT §2, §3). A block is 8 frames, 2,048 bits: frames 0 to 7 of a multiframe, then 8 to 15;
+-- q is the place of its bit 0.
+use Prim.Native.Nat.{ℕ, _+_, _*_}
+use mathlib.Core.Bool.{Bool}
 use mathlib.Core.List.{List}
 use lib.Dec.{eqb}
 use Rattle.line.specs.Bit.{bitAt}
-use Rattle.line.specs.Tab.{tab}
+use Rattle.line.specs.Spelt.{spelt}
 use Rattle.crc.specs.Remainder.{check}
+use Rattle.crc.specs.Striped.{readAs, striped}
 
--- the check bits are bit 1 of the block's frames 0, 2, 4 and 6; all its other bits are data bits
-abbrev pub isCheckPlace : ℕ → Bool
-isCheckPlace i = eqb (i % 512) 0
+-- bit i of the block: its check bits, bit 1 of its frames 0, 2, 4 and 6, are read as 0; all others are data bits
+abbrev pub blockBit : List ℕ → ℕ → ℕ → ℕ
+blockBit s q = readAs 512 0 (λ i. bitAt s (q + i))
 
--- bit i of the block, its four check places read as 0
-unfoldable pub blockBit : List ℕ → ℕ → ℕ → ℕ
-blockBit s q i = cond (isCheckPlace i) 0 (bitAt s (q + i))
-
-unfoldable pub blockBits : List ℕ → ℕ → List ℕ
-blockBits s q = tab 2048 (blockBit s q)
+abbrev pub blockBits : List ℕ → ℕ → List ℕ
+blockBits s q = striped 2048 512 0 (λ i. bitAt s (q + i))
 
 -- its check
 unfoldable pub blockCheck : List ℕ → ℕ → ℕ
@@ -24,7 +22,7 @@ blockCheck s q = check 4 (blockBits s q)
 
 -- C1 to C4, as the block carries them; C1 is the x^3 term
 unfoldable pub carried : List ℕ → ℕ → ℕ
-carried s q = 8 * bitAt s q + 4 * bitAt s (q + 512) + 2 * bitAt s (q + 1024) + bitAt s (q + 1536)
+carried s q = spelt 4 (λ j. bitAt s (q + 512 * j))
 
 -- the block's check is the one that the next block carries
 unfoldable pub agrees : List ℕ → ℕ → Bool

@@ -1,4 +1,5 @@
--- Frames of G.704. A frame is 256 bits, 32 slots of 8; a multiframe is 16 frames, numbered 0 to 15; q is the place of a frame's bit 0.
+-- Frames of G.704, 2.3.2 and 2.3.3.4 (KIT §2). A frame is 256 bits, 32 slots of 8; a multiframe is 16 frames, numbered
+-- 0 to 15; q is the place of a frame's bit 0.
 use Prim.Native.Nat.{ℕ, _+_, _*_, _%_}
 use mathlib.Core.Bool.{Bool}
 use mathlib.Core.List.{List, [], _∷_}
@@ -6,12 +7,12 @@ use lib.Dec.{eqb}
 use Rattle.line.specs.Bit.{field}
 
 -- the place of frame f, numbered from the frame at q
-abbrev pub frame : ℕ → ℕ → ℕ
-frame q f = q + 256 * f
+abbrev pub frameAt : ℕ → ℕ → ℕ
+frameAt q f = q + 256 * f
 
 -- the place of slot j of that frame
-abbrev pub slot : ℕ → ℕ → ℕ → ℕ
-slot q f j = frame q f + 8 * j
+abbrev pub slotAt : ℕ → ℕ → ℕ → ℕ
+slotAt q f j = frameAt q f + 8 * j
 
 -- the alignment word 0011011 in bits 2 to 8 of the frame at q
 abbrev pub wordAt : List ℕ → ℕ → Bool

@@ -1,5 +1,3 @@
 pub mod Frame
 pub mod Block
 pub mod Payload
-pub mod Answer
-pub mod Laws

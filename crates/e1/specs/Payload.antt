@@ -1,4 +1,4 @@
--- The payload: slots 1 to 31, frame after frame, 496 octets a multiframe.
+-- The payload (KIT §5): slots 1 to 31, frame after frame, 496 octets a multiframe.
 use Prim.Native.Nat.{ℕ, _+_, _-_, _*_, _/_, _%_}
 use mathlib.Core.Bool.{Bool, _&&_}
 use mathlib.Core.List.{List}

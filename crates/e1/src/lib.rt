@@ -2,7 +2,7 @@
 ghost use mathlib.Core.Path.{_≡_};
 ghost use Prim.Native.Nat.{_+_, _*_, _<_};
 ghost use Rattle.line.specs.Bit.{Room, octetBits};
-ghost use Rattle.line.specs.Tab.{tab};
+ghost use Rattle.base.specs.Tab.{tab};
 ghost use Rattle.e1.specs.Frame.{wordAt};
 ghost use Rattle.e1.specs.Block.{blockBit, blockCheck, carried, agrees};
 ghost use Rattle.e1.specs.Payload.{sized};

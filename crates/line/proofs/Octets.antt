@@ -5,8 +5,9 @@ use mathlib.Core.List.{List}
 use native.Mathlib.Nat.{add-zero, add-assoc, pow-succ', div-one, div-div-eq-div-mul}
 use native.Mathlib.Omega.{arith}
 use lib.ListN.{getD}
+use Rattle.line.specs.Spelt.{spelt}
 use Rattle.line.specs.Bit.{field}
-use Rattle.line.specs.BitLaws.{field-add, field-in}
+use Rattle.line.proofs.BitLaws.{field-add, field-in}
 use Rattle.line.specs.Window.{lowFirst, turned}
 
 -- eight octets by fours
@@ -34,7 +35,7 @@ module _ (s : List ℕ) (octets : (i : ℕ) → getD s i 0 < 256) where
       rw (← a, field-add s (8 * i) (8 * n) 8, b, c) (omega (arith, octets (i + n)))
 
   pub turned-field : (i m n : ℕ) → n ≤ m → turned n (lowFirst s i m) ≡ field s (8 * i) (8 * n)
-  unfolding turned field
+  unfolding turned field spelt
   turned-field i m zero h = refl
   turned-field i m (suc n) h =
       sym (next-octet i n ∙ ap₂ (λ a b. 256 * a + b) (sym (turned-field i m n (omega arith))) (sym (low-octet i m n (omega arith))))

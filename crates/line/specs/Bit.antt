@@ -1,8 +1,9 @@
--- The bits of an image. Bit 0 is the most significant bit of the first octet.
-use Prim.Native.Nat.{ℕ, zero, suc, _+_, _-_, _*_, _/_, _%_, _^_, _≤_, _<_}
+-- The bits of an image. Bit 0 is the most significant bit of the first octet (KIT §1).
+use Prim.Native.Nat.{ℕ, _+_, _-_, _*_, _/_, _%_, _^_, _≤_, _<_}
 use mathlib.Core.List.{List}
 use lib.ListN.{length, getD}
-use Rattle.line.specs.Tab.{tab}
+use Rattle.base.specs.Tab.{tab}
+use Rattle.line.specs.Spelt.{spelt}
 
 -- the bit at place p; 0 past the end
 unfoldable pub bitAt : List ℕ → ℕ → ℕ
@@ -10,8 +11,7 @@ bitAt s p = getD s (p / 8) 0 / 2 ^ (7 - p % 8) % 2
 
 -- the number that n bits from place p on spell, the first the highest
 unfoldable pub field : List ℕ → ℕ → ℕ → ℕ
-field s p zero = 0
-field s p (suc n) = 2 * field s p n + bitAt s (p + n)
+field s p n = spelt n (λ i. bitAt s (p + i))
 
 -- the octet that the eight bits from place p on spell
 abbrev pub octetAt : List ℕ → ℕ → ℕ

@@ -1,6 +1,3 @@
-pub mod Tab
+pub mod Spelt
 pub mod Bit
 pub mod Window
-pub mod TabLaws
-pub mod BitLaws
-pub mod PartLaws

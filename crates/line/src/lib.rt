@@ -40,7 +40,7 @@ fn wide(x: u8) -> u64
     x as u64
 }
 
-// the four octets from i on as a number, the first the lowest: two of these are one load
+// the four octets from i on as a number, little-endian; two compile to one load
 fn little(s: &[u8], i: usize) -> u64
     requires { ⌜ i + 4 ≤ length (now s) ⌝ }
     ensures { λ r. ⌜ (r ≡ lowFirst (now (s .entry)) i 4) × (r < 4294967296) ⌝ }
@@ -48,7 +48,7 @@ fn little(s: &[u8], i: usize) -> u64
     wide(s[i]) + 256 * wide(s[i + 1]) + 65536 * wide(s[i + 2]) + 16777216 * wide(s[i + 3])
 }
 
-// the octets of a number the other way round: one swap
+// byte-reversed; compiles to one swap
 fn turned(w: u64) -> u64
     ensures { λ r. ⌜ r ≡ turned 8 w ⌝ }
 {

@@ -3,9 +3,9 @@ use Prim.Native.Nat.{ℕ, _-_, _/_, _%_, _^_, _≤_, _<_}
 use mathlib.Core.Path.{_≡_, refl, sym, ap, _∙_}
 use native.Mathlib.Omega.{arith}
 use Rattle.line.specs.Bit.{octetBits}
-use Rattle.line.specs.Tab.{tab, tabFrom}
-use Rattle.crc.specs.Remainder.{step, after}
-use Rattle.crc.specs.Laws.{after-more}
+use Rattle.base.specs.Tab.{tab, tabFrom}
+use Rattle.crc.specs.Remainder.{after}
+use Rattle.crc.proofs.Laws.{after-more}
 use Rattle.crc.proofs.after_octet.Statement.{statement}
 use Rattle.crc.proofs.after_octet.Tie as tie
 
@@ -21,7 +21,8 @@ loop-again c =
     let a = l .before .args in
     let i = l .loop .i in
     let f : ℕ → ℕ = λ j. a .o / 2 ^ (7 - j) % 2 in
-    (omega arith, c .after-bit .ensures .1, c .after-bit .ensures .0 ∙ ap (λ y. step 4 y (f i)) (l .loop .inv .2) ∙ sym (after-more 4 (a .r) i f))
+    let b = c .after-bit in
+    (omega arith, b .ensures .1, rw (b .ensures .0, l .loop .inv .2) (sym (after-more 4 (a .r) i f)))
 
 returns : tie.Need-returns Inv-loop μ-loop
 unfolding octetBits

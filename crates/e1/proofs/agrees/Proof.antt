@@ -1,9 +1,13 @@
 -- `agrees` meets its contract.
+use mathlib.Core.Path.{refl}
 use borrow.Author.Needs.{needs}
 use Rattle.e1.specs.Block.{agrees}
 use Rattle.e1.proofs.agrees.Statement.{statement}
 use Rattle.e1.proofs.agrees.Tie as tie
 
-pub agrees-spec : {M : Type 1} → statement M
+returns : tie.Need-returns
 unfolding agrees
-agrees-spec = tie.close (tie.spec (search needs) (search needs) (search needs) (λ c. cc))
+returns c = rw (c .before .block-check .ensures .0, c .carried .ensures) refl
+
+pub agrees-spec : {M : Type 1} → statement M
+agrees-spec = tie.close (tie.spec (search needs) (search needs) (search needs) returns)

@@ -3,7 +3,7 @@ use Prim.Native.Nat.{_-_, _*_, _≤_, _<_}
 use mathlib.Core.Path.{_≡_, refl, _∙_}
 use native.Mathlib.Omega.{arith}
 use borrow.Author.Needs.{needs}
-use Rattle.line.specs.Tab.{tab, tabFrom}
+use Rattle.base.specs.Tab.{tab, tabFrom}
 use Rattle.crc.specs.Remainder.{after}
 use Rattle.e1.specs.Block.{blockBit}
 use Rattle.e1.proofs.Octets.{octet-more, block-closed}

@@ -1,8 +1,9 @@
 -- `is_sized` meets its contract.
+use mathlib.Core.Path.{refl}
 use Rattle.e1.specs.Payload.{sized}
 use Rattle.e1.proofs.is_sized.Statement.{statement}
 use Rattle.e1.proofs.is_sized.Tie as tie
 
 pub is-sized-spec : {M : Type 1} → statement M
 unfolding sized
-is-sized-spec = tie.close (tie.spec (λ c. cc))
+is-sized-spec = tie.close (tie.spec (λ c. refl))

@@ -3,7 +3,7 @@ use borrow.Author.Needs.{needs}
 use native.Mathlib.Omega.{arith}
 use denote.Ref.{now}
 use lib.Bits.{and-le-r, and-mask}
-use Rattle.line.specs.BitLaws.{octet-one, octet-shifts}
+use Rattle.line.proofs.BitLaws.{octet-one, octet-shifts}
 use Rattle.line.proofs.octet.Statement.{statement}
 use Rattle.line.proofs.octet.Tie as tie
 

@@ -1,7 +1,6 @@
 -- `window` meets its contract: of the octets, turned, the first is the highest.
-use mathlib.Core.Path.{ap, ap₂, _∙_}
+use mathlib.Core.Path.{ap, _∙_}
 use native.Mathlib.Omega.{arith}
-use Prim.Native.Nat.{_+_, _*_}
 use borrow.Author.Needs.{needs}
 use denote.Ref.{now}
 use Rattle.line.specs.Window.{turned}
@@ -15,9 +14,9 @@ returns c =
     let b = two .before .before in
     let s = now (b .before .args .s) in
     let i = b .before .args .i in
-    c .turned .ensures
-    ∙ ap (turned 8) (ap₂ (λ x y. x + 4294967296 * y) (two .before .little .ensures .0) (two .little2 .ensures .0) ∙ four-and-four s i)
-    ∙ turned-field s (λ j. b .shared-slice-known .given j .fits) i 8 8 (omega arith)
+    rw (c .turned .ensures, two .before .little .ensures .0, two .little2 .ensures .0)
+    (ap (turned 8) (four-and-four s i) ∙ turned-field s (λ j. b .shared-slice-known .given j .fits) i 8 8 (omega arith))
 
 pub window-spec : {M : Type 1} → statement M
-window-spec = tie.close (tie.spec (search needs) (omega arith) (search needs) (omega arith) (omega arith) (search needs) returns)
+window-spec =
+    tie.close (tie.spec (search needs) (omega arith) (search needs) (omega arith) (omega arith) (search needs) returns)

@@ -1,7 +1,7 @@
 -- `word` meets its contract: the last seven bits of what `octet` ensures.
 use borrow.Author.Needs.{needs}
 use denote.Ref.{now}
-use Rattle.line.specs.BitLaws.{word-of}
+use Rattle.line.proofs.BitLaws.{word-of}
 use Rattle.line.proofs.word.Statement.{statement}
 use Rattle.line.proofs.word.Tie as tie
 

@@ -1,5 +1,6 @@
--- The check is the remainder of the division by x^w + x + 1: block times x^w = quotient times generator + check, and nothing else of
--- fewer than w digits is. A polynomial is the number whose binary digits are its coefficients, and the sum of two is their exclusive or.
+-- The check is the remainder of the division by x^w + x + 1: block times x^w = quotient times generator + check, and
+-- nothing else of fewer than w digits is. A polynomial is the number whose binary digits are its coefficients, and the
+-- sum of two is their exclusive or.
 use mathlib.Core.Path.{_≡_, refl, sym, ap, ap₂, _∙_, subst}
 use mathlib.Core.List.{List, [], _∷_, _++_}
 use Prim.Native.Nat.{ℕ, suc, zero, _+_, _-_, _*_, _/_, _%_, _^_, _≤_, _<_}
@@ -8,18 +9,10 @@ use native.Mathlib.Omega.{arith}
 use lib.Bits.{bitXor, xor-lt, xor-shr, xor-zero-r, xor-self, xor-block, xor-shifted}
 use lib.Dec.{lit<}
 use lib.Pow.{pow-pos, pow-mono, split}
-use Rattle.crc.specs.Remainder.{zeros, step, after, check}
-use Rattle.crc.specs.Xor.{xor-assoc, xor4, xor-eq, xor-twice}
-use Rattle.crc.specs.Laws.{Bits, zeros-bits, after-lt, check-lt, after-append, step-lt, top}
-
--- the polynomial of bits, the highest first, after those of v
-unfoldable pub poly : ℕ → List ℕ → ℕ
-poly v [] = v
-poly v (b ∷ bs) = poly (2 * v + b) bs
-
--- q (x^w + x + 1)
-unfoldable pub timesGen : ℕ → ℕ → ℕ
-timesGen w q = bitXor (q * 2 ^ w) (bitXor (2 * q) q)
+use Rattle.crc.specs.Polynomial.{poly, timesGen}
+use Rattle.crc.specs.Remainder.{zeros, step, after, check, Bits}
+use Rattle.crc.proofs.Xor.{xor-assoc, xor4, xor-eq, xor-twice}
+use Rattle.crc.proofs.Laws.{zeros-bits, after-lt, check-lt, after-append, step-lt, top}
 
 poly-append : (v : ℕ) (bs cs : List ℕ) → poly v (bs ++ cs) ≡ poly (poly v bs) cs
 unfolding poly
@@ -29,10 +22,13 @@ poly-append v (b ∷ bs) cs = poly-append (2 * v + b) bs cs
 poly-zeros : (n v : ℕ) → poly v (zeros n) ≡ v * 2 ^ n
 unfolding poly
 poly-zeros zero v = sym (mul-one v)
-poly-zeros (suc n) v = poly-zeros n (2 * v + 0) ∙ (let e : (2 * v + 0) * 2 ^ n ≡ v * 2 ^ suc n = rw (pow-suc 2 n) (omega arith) in e)
+poly-zeros (suc n) v =
+    poly-zeros n (2 * v + 0) ∙ (let e : (2 * v + 0) * 2 ^ n ≡ v * 2 ^ suc n = rw (pow-suc 2 n) (omega arith) in e)
 
 twice : (a b : ℕ) → 2 * bitXor a b ≡ bitXor (2 * a) (2 * b)
-twice a b = sym (add-zero (2 * bitXor a b)) ∙ xor-twice a b 0 0 (lit< tt) (lit< tt) ∙ ap₂ bitXor (add-zero (2 * a)) (add-zero (2 * b))
+twice a b =
+    sym (add-zero (2 * bitXor a b)) ∙ xor-twice a b 0 0 (lit< tt) (lit< tt)
+    ∙ ap₂ bitXor (add-zero (2 * a)) (add-zero (2 * b))
 
 shifted : (w a b : ℕ) → bitXor a b * 2 ^ w ≡ bitXor (a * 2 ^ w) (b * 2 ^ w)
 shifted w a b =
@@ -97,7 +93,8 @@ module _ (w : ℕ) (wide : 2 ≤ w) where
       ∙ ap (λ x. x * 2 ^ w + bitXor (t % 2 ^ w) (3 * h)) (xor-self h)
       ∙ (let k : 0 * 2 ^ w + bitXor (t % 2 ^ w) (3 * h) ≡ bitXor (t % 2 ^ w) (3 * h) = omega arith in k))
 
-  divided : (q r : ℕ) (bs : List ℕ) → r < 2 ^ w → Bits bs → (p : ℕ) × (poly (bitXor (timesGen w q) r) bs ≡ bitXor (timesGen w p) (after w r bs))
+  divided : (q r : ℕ) (bs : List ℕ) → r < 2 ^ w → Bits bs
+      → (p : ℕ) × (poly (bitXor (timesGen w q) r) bs ≡ bitXor (timesGen w p) (after w r bs))
   unfolding poly after
   divided q r [] hr hb = (q, refl)
   divided q r (b ∷ bs) hr hb =
@@ -111,7 +108,8 @@ module _ (w : ℕ) (wide : 2 ≤ w) where
       let (p, e) = divided 0 0 bs (pow-pos w) hb in
       let (q, f) = divided p (after w 0 bs) (zeros w) (after-lt w wide 0 bs (pow-pos w) hb) (zeros-bits w) in (
         q,
-        sym (poly-zeros w (poly 0 bs)) ∙ ap (λ x. poly x (zeros w)) (ap (λ x. poly (bitXor x 0) bs) (sym (gen-zero w)) ∙ e) ∙ f
+        sym (poly-zeros w (poly 0 bs))
+            ∙ ap (λ x. poly x (zeros w)) (ap (λ x. poly (bitXor x 0) bs) (sym (gen-zero w)) ∙ e) ∙ f
             ∙ ap (bitXor (timesGen w q)) (sym (after-append w 0 bs (zeros w))),
       )
 
@@ -128,7 +126,8 @@ module _ (w : ℕ) (wide : 2 ≤ w) where
       let hp : t / 2 ^ w < 2 ^ k = div-lt-iff-lt-mul (pow-pos w) .1 (omega (arith, mul-le-mul-left (2 ^ k) four)) in
       small k p (omega arith) g
 
-  pub remainder-unique : (p q r s : ℕ) → r < 2 ^ w → s < 2 ^ w → bitXor (timesGen w p) r ≡ bitXor (timesGen w q) s → r ≡ s
+  pub remainder-unique : (p q r s : ℕ) → r < 2 ^ w → s < 2 ^ w → bitXor (timesGen w p) r ≡ bitXor (timesGen w q) s
+      → r ≡ s
   remainder-unique p q r s hr hs e =
       let gd : timesGen w (bitXor p q) ≡ bitXor r s
       = timesGen-linear w p q
@@ -137,7 +136,8 @@ module _ (w : ℕ) (wide : 2 ≤ w) where
       let none : bitXor p q ≡ 0 = small (bitXor p q) (bitXor p q) (lt-pow (bitXor p q)) (subst (λ x. x < 2 ^ w) (sym gd) (xor-lt w r s hr hs)) in
       xor-eq r s (sym gd ∙ ap (timesGen w) none ∙ gen-zero w)
 
-  pub check-unique : (bs : List ℕ) (q r : ℕ) → Bits bs → r < 2 ^ w → poly 0 bs * 2 ^ w ≡ bitXor (timesGen w q) r → r ≡ check w bs
+  pub check-unique : (bs : List ℕ) (q r : ℕ) → Bits bs → r < 2 ^ w → poly 0 bs * 2 ^ w ≡ bitXor (timesGen w q) r
+      → r ≡ check w bs
   check-unique bs q r hb hr e =
       remainder-unique q (check-divides bs hb .0) r (check w bs) hr (check-lt w wide bs hb) (sym e ∙ check-divides bs hb .1)
 

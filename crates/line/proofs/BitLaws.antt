@@ -2,15 +2,18 @@
 use Prim.Native.Nat.{ℕ, zero, suc, _+_, _-_, _*_, _/_, _%_, _^_, _<_}
 use mathlib.Core.Path.{_≡_, refl, sym, _∙_, ap}
 use mathlib.Core.List.{List}
-use native.Mathlib.Nat.{add-zero, add-suc, add-assoc, pow-suc, mul-assoc, mod-one, mul-mod-left}
+use native.Mathlib.Nat.{add-zero, add-assoc, mod-one, mul-mod-left}
 use native.Mathlib.Numerals.{add-one}
 use native.Mathlib.Omega.{arith}
 use lib.Bits.{bitAnd, bitOr, and-mask, or-shifted}
-use lib.ListN.{getD}
+use lib.ListN.{length, getD}
+use lib.Seq.{ext-getD}
 use lib.Pow.{high, low, shr-shr, mod-pow-add, shl-shr, shr-mod, shr-lt}
-use Rattle.line.specs.Tab.{tab}
-use Rattle.line.specs.TabLaws.{tab-agree}
+use Rattle.base.specs.Tab.{tab}
+use Rattle.base.proofs.TabLaws.{tab-agree}
+use Rattle.line.specs.Spelt.{spelt}
 use Rattle.line.specs.Bit.{bitAt, field, octetAt, octetBits}
+use Rattle.line.proofs.SpeltLaws.{spelt-add, spelt-agree, spelt-lt, spelt-same}
 
 pub bit-lt : (s : List ℕ) (p : ℕ) → bitAt s p < 2
 unfolding bitAt
@@ -18,16 +21,15 @@ bit-lt s p = omega arith
 
 pub field-lt : (s : List ℕ) (p n : ℕ) → field s p n < 2 ^ n
 unfolding field
-field-lt s p zero = omega arith
-field-lt s p (suc n) = rw pow-suc (omega (arith, field-lt s p n, bit-lt s (p + n)))
+field-lt s p n = spelt-lt n (λ i. bitAt s (p + i)) (λ i. bit-lt s (p + i))
 
 -- n + m bits: the first n, and then m
 pub field-add : (s : List ℕ) (p n m : ℕ) → field s p (n + m) ≡ field s p n * 2 ^ m + field s (p + n) m
 unfolding field
-field-add s p n zero = rw (add-zero n) (omega arith)
-field-add s p n (suc m) =
-    rw (add-suc n m, field-add s p n m, ← add-assoc p n m, pow-suc 2 m)
-    (omega (arith, mul-assoc (field s p n) (2 ^ m) 2))
+field-add s p n m =
+    spelt-add n m (λ i. bitAt s (p + i))
+    ∙ ap (λ x. field s p n * 2 ^ m + x)
+    (spelt-agree m (λ i. bitAt s (p + (n + i))) (λ i. bitAt s (p + n + i)) (λ i l. ap (bitAt s) (sym (add-assoc p n i))))
 
 -- the bit o of the octet q
 pub bit-in : (s : List ℕ) (q o : ℕ) → o < 8 → bitAt s (8 * q + o) ≡ getD s q 0 / 2 ^ (7 - o) % 2
@@ -39,7 +41,7 @@ bit-in s q o h =
 
 -- n bits within the octet q, of which m follow
 pub field-in : (s : List ℕ) (q o n m : ℕ) → o + n + m ≡ 8 → field s (8 * q + o) n ≡ getD s q 0 / 2 ^ m % 2 ^ n
-unfolding field
+unfolding field spelt
 field-in s q o zero m h = sym (mod-one _)
 field-in s q o (suc n) m h =
     let e : 7 - (o + n) ≡ m = omega arith in
@@ -94,7 +96,7 @@ octet-one s p e h =
 
 -- the last seven bits of an octet
 pub word-of : (s : List ℕ) (p : ℕ) → bitAnd (octetAt s p) 127 ≡ field s (p + 1) 7
-unfolding field
+unfolding field spelt
 word-of s p = and-mask (octetAt s p) 7 ∙ omega (arith, field-add s p 1 7, field-lt s (p + 1) 7)
 
 -- of a + n + m bits the n that have m behind them
@@ -103,9 +105,9 @@ field-within s p a n m =
     rw (field-add s p (a + n) m, high (field s p (a + n)) m (field-lt s (p + (a + n)) m), field-add s p a n)
     (low (field s p a) n (field-lt s (p + a) n))
 
--- and the one
+-- one bit of a field
 pub bit-of-field : (s : List ℕ) (p n m : ℕ) → field s p (n + 1 + m) / 2 ^ m % 2 ≡ bitAt s (p + n)
-unfolding field
+unfolding field spelt
 bit-of-field s p n m = field-within s p n 1 m ∙ rw add-zero (omega arith)
 
 -- the bits of an octet of the line
@@ -114,3 +116,28 @@ unfolding octetBits
 octet-bits s p =
     tab-agree 8 (λ i. octetAt s p / 2 ^ (7 - i) % 2) (λ i. bitAt s (p + i))
     (λ i h. let e : i + 1 + (7 - i) ≡ 8 = omega arith in rw (← e) (bit-of-field s p i (7 - i)))
+
+-- equal fields have equal bits
+pub field-same : (s t : List ℕ) (p n : ℕ) → field s p n ≡ field t p n
+    → (i : ℕ) → i < n → bitAt s (p + i) ≡ bitAt t (p + i)
+unfolding field
+field-same s t p n e =
+    spelt-same n (λ i. bitAt s (p + i)) (λ i. bitAt t (p + i)) (λ i. bit-lt s (p + i)) (λ i. bit-lt t (p + i)) e
+
+-- an octet is what its bits spell
+octet-field : (s : List ℕ) (q : ℕ) → getD s q 0 < 256 → getD s q 0 ≡ field s (8 * q) 8
+octet-field s q h =
+    let z : 8 * q + 0 ≡ 8 * q = omega arith in
+    let e : field s (8 * q + 0) 8 ≡ getD s q 0 / 2 ^ 0 % 2 ^ 8 = field-in s q 0 8 0 refl in
+    let w : getD s q 0 ≡ field s (8 * q + 0) 8 = omega arith in
+    w ∙ ap (λ p. field s p 8) z
+
+-- images of octets with equal bits are equal
+pub image-same : (s t : List ℕ) → ((i : ℕ) → getD s i 0 < 256) → ((i : ℕ) → getD t i 0 < 256)
+    → length s ≡ length t → ((i : ℕ) → i < 8 * length s → bitAt s i ≡ bitAt t i) → s ≡ t
+unfolding field
+image-same s t hs ht e same =
+    ext-getD 0 s t e
+    (λ q l. octet-field s q (hs q)
+    ∙ spelt-agree 8 (λ j. bitAt s (8 * q + j)) (λ j. bitAt t (8 * q + j)) (λ j k. same (8 * q + j) (omega arith))
+    ∙ sym (octet-field t q (ht q)))

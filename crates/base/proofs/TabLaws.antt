@@ -5,12 +5,14 @@ use mathlib.Core.Bool.{Bool, true, false, cond, _&&_, and-eq-true-iff}
 use mathlib.Core.List.{List, [], _∷_, _++_}
 use mathlib.Core.Option.{Option, none, some, Option·none-ne-some, Option·some-ne-none, Option·some-injective}
 use mathlib.Core.Logic.{inl, inr, _↔_}
-use native.Mathlib.Nat.{add-zero, zero-add, suc-add, add-suc, suc-mul, not-suc-le-zero, le-of-suc-le-suc, eq-or-lt-of-le}
+use native.Mathlib.Nat.{add-zero, zero-add, suc-add, add-suc, suc-mul, not-suc-le-zero, le-of-suc-le-suc}
+use native.Mathlib.Nat.{eq-or-lt-of-le}
 use native.Mathlib.Numerals.{add-one}
 use native.Mathlib.Omega.{arith}
 use lib.ListN.{length, getD, take, set}
-use lib.Seq.{take-suc-set, take-all}
-use Rattle.line.specs.Tab.{tabFrom, tab, sum, count, all, orElse, first, whenSo, least}
+use lib.Seq.{take-suc-set, take-all, ext-getD}
+use Rattle.base.specs.Tab.{tabFrom, tab, sum, count, all, first, least}
+use Rattle.base.specs.Choice.{orElse, whenSo}
 
 module _ {ℓ} {A : Type ℓ} where
   pub length-tabFrom : (i n : ℕ) (f : ℕ → A) → length (tabFrom i n f) ≡ n
@@ -43,7 +45,8 @@ module _ {ℓ} {A : Type ℓ} where
   tab-more n f = tab-add n 1 f
 
   -- two tables that agree, each from its own place on
-  pub tabFrom-agree : (i k n : ℕ) (f g : ℕ → A) → ((j : ℕ) → j < n → f (i + j) ≡ g (k + j)) → tabFrom i n f ≡ tabFrom k n g
+  pub tabFrom-agree : (i k n : ℕ) (f g : ℕ → A) → ((j : ℕ) → j < n → f (i + j) ≡ g (k + j))
+      → tabFrom i n f ≡ tabFrom k n g
   unfolding tabFrom
   tabFrom-agree i k zero f g h = refl
   tabFrom-agree i k (suc n) f g h =
@@ -56,10 +59,13 @@ module _ {ℓ} {A : Type ℓ} where
 
   -- n values, and m more
   pub tab-split : (n m : ℕ) (f : ℕ → A) → tab (n + m) f ≡ tab n f ++ tab m (λ i. f (n + i))
-  tab-split n m f = tab-add n m f ∙ ap (λ l. tab n f ++ l) (tabFrom-agree n 0 m f (λ i. f (n + i)) (λ j h. ap (λ i. f (n + i)) (sym (zero-add j))))
+  tab-split n m f =
+      tab-add n m f
+      ∙ ap (λ l. tab n f ++ l) (tabFrom-agree n 0 m f (λ i. f (n + i)) (λ j h. ap (λ i. f (n + i)) (sym (zero-add j))))
 
   -- a loop that writes d from the front: what is written is a table
-  pub fill-more : (d : List A) (i : ℕ) (f : ℕ → A) → i < length d → take i d ≡ tab i f → take (i + 1) (set d i (f i)) ≡ tab (i + 1) f
+  pub fill-more : (d : List A) (i : ℕ) (f : ℕ → A) → i < length d → take i d ≡ tab i f
+      → take (i + 1) (set d i (f i)) ≡ tab (i + 1) f
   fill-more d i f h e = rw (tab-more i f, ← e, add-one) (take-suc-set d i (f i) h)
 
   pub tab-fill : (d : List A) (n : ℕ) (f : ℕ → A) → length d ≤ n → take n d ≡ tab n f → d ≡ tab n f
@@ -73,7 +79,8 @@ module _ {ℓ} {A : Type ℓ} where
   pub some-first : (n i : ℕ) (f : ℕ → Option A) (a : A) → i < n → first i f ≡ none → f i ≡ some a → first n f ≡ some a
   unfolding first
   some-first zero i f a h e k = absurd (not-suc-le-zero h)
-  some-first (suc n) i f a h e k = elim (eq-or-lt-of-le (le-of-suc-le-suc h)) [ inl q ↦ rw (← q, e, k) | inr l ↦ rw (some-first n i f a l e k) ]
+  some-first (suc n) i f a h e k =
+      elim (eq-or-lt-of-le (le-of-suc-le-suc h)) [ inl q ↦ rw (← q, e, k) | inr l ↦ rw (some-first n i f a l e k) ]
 
   none-left : (o : Option A) (p : Option A) → orElse o p ≡ none → (o ≡ none) × (p ≡ none)
   none-left none p e = (refl, e)
@@ -95,15 +102,23 @@ module _ {ℓ} {A : Type ℓ} where
   first-less m n f h e = none-first m f (λ i l. first-none n f e i (omega arith))
 
   -- the i at which the first stands
-  pub first-some : (n : ℕ) (f : ℕ → Option A) (a : A) → first n f ≡ some a → (i : ℕ) × (i < n) × (f i ≡ some a) × ((j : ℕ) → j < i → f j ≡ none)
+  pub first-some : (n : ℕ) (f : ℕ → Option A) (a : A) → first n f ≡ some a
+      → (i : ℕ) × (i < n) × (f i ≡ some a) × ((j : ℕ) → j < i → f j ≡ none)
   unfolding first
   first-some zero f a e = absurd (Option·none-ne-some a e)
   first-some (suc n) f a e = go (first n f) refl (first-some n f a) e
     where
-      go : (o : Option A) → first n f ≡ o → (first n f ≡ some a → (i : ℕ) × (i < n) × (f i ≡ some a) × ((j : ℕ) → j < i → f j ≡ none))
+      go : (o : Option A) → first n f ≡ o
+          → (first n f ≡ some a → (i : ℕ) × (i < n) × (f i ≡ some a) × ((j : ℕ) → j < i → f j ≡ none))
           → orElse o (f n) ≡ some a → (i : ℕ) × (i < suc n) × (f i ≡ some a) × ((j : ℕ) → j < i → f j ≡ none)
       go none q r k = (n, omega arith, k, first-none n f q)
       go (some b) q r k = let w = r (q ∙ k) in (w .0, omega arith, w .2, w .3)
+
+-- a table of a list's elements
+pub tab-of : (n : ℕ) (f : ℕ → ℕ) (l : List ℕ) → length l ≡ n → ((i : ℕ) → i < n → f i ≡ getD l i 0) → tab n f ≡ l
+tab-of n f l e h =
+    ext-getD 0 (tab n f) l (length-tab n f ∙ sym e)
+    (λ i l. let k : i < n = rw length-tab at l in getD-tab n f i 0 k ∙ h i k)
 
 -- what passes first
 whenSo-some : (b : Bool) (i k : ℕ) → whenSo b i ≡ some k → (b ≡ true) × (i ≡ k)
@@ -210,3 +225,11 @@ unfolding all
 all-fails zero t i h e = absurd (not-suc-le-zero h)
 all-fails (suc n) t i h e =
     elim (eq-or-lt-of-le (le-of-suc-le-suc h)) [ inl q ↦ rw (← q, e) (and-false (all i t)) | inr l ↦ rw (all-fails n t i l e) ]
+
+-- a sum taken two by two
+pub sum-pairs : (n : ℕ) (f h : ℕ → ℕ) → ((m : ℕ) → f m ≡ h (2 * m) + h (2 * m + 1)) → sum n f ≡ sum (2 * n) h
+unfolding sum
+sum-pairs zero f h w = refl
+sum-pairs (suc n) f h w =
+    let e : 2 * suc n ≡ 2 * n + 1 + 1 = omega arith in
+    rw e (omega (arith, sum-pairs n f h w, w n, sum-more (2 * n) h, sum-more (2 * n + 1) h))

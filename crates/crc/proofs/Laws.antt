@@ -1,5 +1,6 @@
--- The laws of the check, over its width w from 2 on: remainders stay below 2^w, the check is linear in the bits, it sees every burst of
--- at most w bits, and no hits near a block's end look like one on the first bit of the check that follows.
+-- The laws of the check, over its width w from 2 on: remainders stay below 2^w, the check is linear in the bits, it
+-- sees every burst of at most w bits, and no hits near a block's end look like one on the first bit of the check that
+-- follows.
 use mathlib.Core.Path.{_≡_, refl, sym, ap, ap₂, _∙_, subst}
 use mathlib.Core.Logic.{_≢_, _↔_}
 use mathlib.Core.List.{List, [], _∷_, _++_}
@@ -12,14 +13,10 @@ use native.Mathlib.Omega.{arith}
 use lib.Bits.{bitXor, xor-lt, xor-shr, xor-mod, xor-zero-r, xor-self}
 use lib.ListN.{length, getD, length-append, List·getD-append, List·getD-eq-default}
 use lib.Pow.{pow-pos, pow-mono, pow-add, pow-lt, split}
-use Rattle.line.specs.Tab.{tab}
-use Rattle.line.specs.TabLaws.{tab-more}
-use Rattle.crc.specs.Remainder.{zeros, step, after, check}
-use Rattle.crc.specs.Xor.{xor4, xor-eq, xor-twice, xor-three, xor-bit, xor-differ}
-
--- every element is 0 or 1
-abbrev pub Bits : List ℕ → Type 0
-Bits bs = (i : ℕ) → getD bs i 0 < 2
+use Rattle.base.specs.Tab.{tab}
+use Rattle.base.proofs.TabLaws.{tab-more}
+use Rattle.crc.specs.Remainder.{Bits, zeros, step, after, check}
+use Rattle.crc.proofs.Xor.{xor4, xor-eq, xor-twice, xor-three, xor-bit, xor-differ}
 
 -- the sum of two polynomials
 unfoldable pub plus : List ℕ → List ℕ → List ℕ
@@ -54,7 +51,8 @@ cons-zero : (b : ℕ) (bs : List ℕ) → b ≡ 0 → ((i : ℕ) → getD bs i 0
 cons-zero b bs e h zero = e
 cons-zero b bs e h (suc i) = h i
 
-getD-plus : (bs cs : List ℕ) → length bs ≡ length cs → (i : ℕ) → getD (plus bs cs) i 0 ≡ bitXor (getD bs i 0) (getD cs i 0)
+getD-plus : (bs cs : List ℕ) → length bs ≡ length cs → (i : ℕ)
+    → getD (plus bs cs) i 0 ≡ bitXor (getD bs i 0) (getD cs i 0)
 unfolding plus
 getD-plus [] [] l i = refl
 getD-plus [] (c ∷ cs) l i = absurd (suc-ne-zero (length cs) (sym l))
@@ -118,7 +116,8 @@ module _ (w : ℕ) (wide : 2 ≤ w) where
       ap (λ x. after w x (plus bs cs)) (step-linear r s b c hr hs (hb 0) (hc 0))
       ∙ after-linear (step w r b) (step w s c) bs cs (step-lt r b hr (hb 0)) (step-lt s c hs (hc 0)) (λ i. hb (suc i)) (λ i. hc (suc i)) (suc-inj e)
 
-  pub check-linear : (bs cs : List ℕ) → Bits bs → Bits cs → length bs ≡ length cs → check w (plus bs cs) ≡ bitXor (check w bs) (check w cs)
+  pub check-linear : (bs cs : List ℕ) → Bits bs → Bits cs → length bs ≡ length cs
+      → check w (plus bs cs) ≡ bitXor (check w bs) (check w cs)
   unfolding check
   check-linear bs cs hb hc e =
       after-append w 0 (plus bs cs) (zeros w)
@@ -129,7 +128,8 @@ module _ (w : ℕ) (wide : 2 ≤ w) where
 
   pub check-lt : (bs : List ℕ) → Bits bs → check w bs < 2 ^ w
   unfolding check
-  check-lt bs hb = rw (after-append w 0 bs (zeros w)) (after-lt (after w 0 bs) (zeros w) (after-lt 0 bs (pow-pos w) hb) (zeros-bits w))
+  check-lt bs hb =
+      rw (after-append w 0 bs (zeros w)) (after-lt (after w 0 bs) (zeros w) (after-lt 0 bs (pow-pos w) hb) (zeros-bits w))
 
   -- no bit comes out: the register only shifts
   pub step-shift : (r b : ℕ) → 2 * r + b < 2 ^ w → step w r b ≡ 2 * r + b
@@ -153,9 +153,10 @@ module _ (w : ℕ) (wide : 2 ≤ w) where
       go (suc zero) hh s l = let (m, p) = even in omega arith
       go (suc (suc h)) hh s l = omega arith
 
-  -- A register of k digits, then n = w - k bits, then zeros: nothing comes out while the bits come in, and no zero that follows
-  -- takes a register to 0.
-  held : (n k r : ℕ) (d : List ℕ) → k + n ≡ w → r < 2 ^ k → Bits d → ((i : ℕ) → n ≤ i → getD d i 0 ≡ 0) → after w r d ≡ 0
+  -- A register of k digits, then n = w - k bits, then zeros: nothing comes out while the bits come in, and no zero that
+  -- follows takes a register to 0.
+  held : (n k r : ℕ) (d : List ℕ) → k + n ≡ w → r < 2 ^ k → Bits d → ((i : ℕ) → n ≤ i → getD d i 0 ≡ 0)
+      → after w r d ≡ 0
       → (r ≡ 0) × ((i : ℕ) → getD d i 0 ≡ 0)
   unfolding after
   held n k r [] e hr hd z a = (a, λ i. refl)
@@ -173,7 +174,8 @@ module _ (w : ℕ) (wide : 2 ≤ w) where
       (omega (arith, rest .0), cons-zero b bs (omega (arith, rest .0)) (rest .1))
 
   -- bits in w places from place a on, and no others: the remainder is not 0 unless they all are
-  pub burst-zero : (a : ℕ) (d : List ℕ) → Bits d → ((i : ℕ) → i < a → getD d i 0 ≡ 0) → ((i : ℕ) → a + w ≤ i → getD d i 0 ≡ 0)
+  pub burst-zero : (a : ℕ) (d : List ℕ) → Bits d → ((i : ℕ) → i < a → getD d i 0 ≡ 0)
+      → ((i : ℕ) → a + w ≤ i → getD d i 0 ≡ 0)
       → after w 0 d ≡ 0 → (i : ℕ) → getD d i 0 ≡ 0
   unfolding after
   burst-zero zero d hd before later e = (held w 0 0 d (zero-add w) (pow-pos 0) hd (λ i h. later i (omega arith)) e) .1
@@ -191,7 +193,8 @@ module _ (w : ℕ) (wide : 2 ≤ w) where
   pub zeros-of-zero : (d : List ℕ) → ((i : ℕ) → getD d i 0 ≡ 0) → after w 0 d ≡ 0
   unfolding after
   zeros-of-zero [] z = refl
-  zeros-of-zero (b ∷ bs) z = ap (λ x. after w x bs) (ap (step w 0) (z 0) ∙ step-zero) ∙ zeros-of-zero bs (λ i. z (suc i))
+  zeros-of-zero (b ∷ bs) z =
+      ap (λ x. after w x bs) (ap (step w 0) (z 0) ∙ step-zero) ∙ zeros-of-zero bs (λ i. z (suc i))
 
   pub zeros-injective : (n r s : ℕ) → r < 2 ^ w → s < 2 ^ w → after w r (zeros n) ≡ after w s (zeros n) → r ≡ s
   zeros-injective n r s hr hs e =
@@ -238,7 +241,8 @@ module _ (w : ℕ) (wide : 2 ≤ w) where
     )
 
     -- two blocks with one check that agree but for w places in a row are one block
-    pub burst-same : (a : ℕ) → ((i : ℕ) → i < a → getD bs i 0 ≡ getD cs i 0) → ((i : ℕ) → a + w ≤ i → getD bs i 0 ≡ getD cs i 0)
+    pub burst-same : (a : ℕ) → ((i : ℕ) → i < a → getD bs i 0 ≡ getD cs i 0)
+        → ((i : ℕ) → a + w ≤ i → getD bs i 0 ≡ getD cs i 0)
         → check w bs ≡ check w cs → bs ≡ cs
     burst-same a before later e =
         ext-getD 0 bs cs l
@@ -247,13 +251,16 @@ module _ (w : ℕ) (wide : 2 ≤ w) where
         ∙ burst-zero a (plus bs cs) plus-bits (λ i h. plus-same i (before i h)) (λ i h. plus-same i (later i h)) (check-same .0 e) i))
 
     -- a burst of at most w bits is always seen
-    pub burst : bs ≢ cs → (a : ℕ) → ((i : ℕ) → getD bs i 0 ≢ getD cs i 0 → (a ≤ i) × (i < a + w)) → check w bs ≢ check w cs
+    pub burst : bs ≢ cs → (a : ℕ) → ((i : ℕ) → getD bs i 0 ≢ getD cs i 0 → (a ≤ i) × (i < a + w))
+        → check w bs ≢ check w cs
     burst ne a within e =
         ne (burst-same a (λ i h. same (getD bs i 0) (getD cs i 0) (λ n. omega (arith, within i n)))
         (λ i h. same (getD bs i 0) (getD cs i 0) (λ n. omega (arith, within i n))) e)
 
-    -- hits in the last w - 1 bits of a block never look like a hit on the first bit of its check, which follows them on the line
-    pub near-end : ((i : ℕ) → i + w ≤ length bs → getD bs i 0 ≡ getD cs i 0) → bitXor (check w bs) (check w cs) ≢ 2 ^ (w - 1)
+    -- hits in the last w - 1 bits of a block never look like a hit on the first bit of its check, which follows them on
+    -- the line
+    pub near-end : ((i : ℕ) → i + w ≤ length bs → getD bs i 0 ≡ getD cs i 0)
+        → bitXor (check w bs) (check w cs) ≢ 2 ^ (w - 1)
     unfolding after check
     near-end agree e =
         let d : List ℕ = plus bs cs in

@@ -1,0 +1,4 @@
+pub mod ChoiceLaws
+pub mod TabLaws
+pub mod PartLaws
+pub mod AnswerLaws
