@@ -6,8 +6,9 @@ use mathlib.Core.List.{List, _∷_}
 use mathlib.Core.Option.{none, some}
 use lib.Dec.{eqb, leb}
 use lib.ListN.{getD}
+use Rattle.line.specs.Spelt.{spelt}
 use Rattle.line.specs.Bit.{bitAt, field}
-use Rattle.line.specs.Tab.{tab, tabFrom, all, first}
+use Rattle.base.specs.Tab.{tab, tabFrom, all, first}
 use Rattle.e1.specs.Frame.{signal}
 use Rattle.align.specs.Place.{basic, signalAt, pairAt, standing, firstStanding}
 
@@ -18,22 +19,22 @@ image a n =
     (λ i. cond (eqb (i % 64) 0) 27 (cond (eqb (i % 64) 32) (64 + 128 * cond (leb a (i / 64)) (getD signal ((i / 64 - a) % 8) 0) 1) 0))
 
 at-once : firstStanding (image 0 2048) ≡ some (record { place = 0; k = 0 })
-unfolding image firstStanding first standing basic pairAt signalAt all bitAt field tabFrom
+unfolding image firstStanding first standing basic pairAt signalAt all bitAt field spelt tabFrom
 at-once = refl
 
 an-octet-on : firstStanding (0 ∷ image 0 2048) ≡ some (record { place = 8; k = 0 })
-unfolding image firstStanding first standing basic pairAt signalAt all bitAt field tabFrom
+unfolding image firstStanding first standing basic pairAt signalAt all bitAt field spelt tabFrom
 an-octet-on = refl
 
 an-octet-short : firstStanding (image 0 2047) ≡ none
-unfolding image firstStanding first standing basic pairAt signalAt all bitAt field tabFrom
+unfolding image firstStanding first standing basic pairAt signalAt all bitAt field spelt tabFrom
 an-octet-short = refl
 
 -- 18 is the last k that there is
 last-k : firstStanding (image 18 2048) ≡ some (record { place = 0; k = 18 })
-unfolding image firstStanding first standing basic pairAt signalAt all bitAt field tabFrom
+unfolding image firstStanding first standing basic pairAt signalAt all bitAt field spelt tabFrom
 last-k = refl
 
 past-the-last-k : firstStanding (image 19 2048) ≡ none
-unfolding image firstStanding first standing basic pairAt signalAt all bitAt field tabFrom
+unfolding image firstStanding first standing basic pairAt signalAt all bitAt field spelt tabFrom
 past-the-last-k = refl

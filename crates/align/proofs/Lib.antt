@@ -1,3 +1,3 @@
-pub mod Bits
+pub mod Laws
 pub mod Rows
 pub mod Examples

@@ -1,12 +1,14 @@
--- Which place stands (G.706, as the paper fixes it), as it is worked out: the first place of an image that stands, with its least k.
+-- Which place stands (G.706, 4.1.2 and 4.2; KIT §4), as it is worked out: the first of an image that does, with its
+-- least k.
 use Prim.Native.Nat.{ℕ, _+_, _*_}
-use mathlib.Core.Bool.{Bool, cond, _&&_, _||_}
+use mathlib.Core.Bool.{Bool, _&&_, _||_}
 use mathlib.Core.List.{List}
 use mathlib.Core.Option.{Option, none, some}
 use lib.Dec.{eqb, leb}
 use lib.ListN.{length, getD}
 use Rattle.line.specs.Bit.{bitAt}
-use Rattle.line.specs.Tab.{all, first, least}
+use Rattle.base.specs.Choice.{if_then_else_}
+use Rattle.base.specs.Tab.{all, first, least}
 use Rattle.e1.specs.Frame.{wordAt, signal}
 use Rattle.align.specs.declared.Found.{Found}
 use Rattle.align.specs.declared.Found.the-variants.{At, Nothing}
@@ -41,13 +43,26 @@ withPlace p none = none
 
 -- the place p with its least k, where it stands
 unfoldable pub standing : List ℕ → ℕ → Option Standing
-standing s p = cond (leb (p + 16384) (8 * length s) && basic s p) (withPlace p (least 32 (pairAt s p))) none
+standing s p = if leb (p + 16384) (8 * length s) && basic s p then withPlace p (least 32 (pairAt s p)) else none
 
 -- the first place in the image, counted from bit 0, that stands
 unfoldable pub firstStanding : List ℕ → Option Standing
 firstStanding s = first (8 * length s) (standing s)
 
--- the same as the search answers it
+-- What the search answers of it, and for each case its number and values: the place and the multiframe start, p + 512k.
+
 abbrev pub found : Option Standing → Found
 found (some w) = At (w .place) (w .k)
 found none = Nothing
+
+abbrev pub numberOf : Found → ℕ
+numberOf (At p k) = 0
+numberOf Nothing = 3
+
+abbrev pub placeOf : Found → ℕ
+placeOf (At p k) = p
+placeOf Nothing = 0
+
+abbrev pub startOf : Found → ℕ
+startOf (At p k) = p + 512 * k
+startOf Nothing = 0

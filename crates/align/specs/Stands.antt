@@ -1,4 +1,4 @@
--- Which place stands, as the paper says it.
+-- Which place stands, as KIT §4 says it. What is worked out in Place is proved to be this, both ways.
 use Prim.Native.Nat.{ℕ, _+_, _*_, _≤_, _<_}
 use mathlib.Core.Path.{_≡_}
 use mathlib.Core.List.{List}
@@ -7,17 +7,17 @@ use Rattle.line.specs.Bit.{bitAt, field}
 use Rattle.e1.specs.Frame.{signal}
 use Rattle.align.specs.Place.{mark}
 
--- "The word 0011011 is at bits p+1 to p+7, bit p+257 is 1, and the word is at p+513 to p+519."
+-- basic alignment: the word in the frame at p, a 1 in bit 2 of the next frame, the word again in the one after
 pub record Basic (s : List ℕ) (p : ℕ) : Type 0 where
   pub word : field s (p + 1) 7 ≡ 27
   pub bit-2 : bitAt s (p + 257) ≡ 1
   pub word-again : field s (p + 513) 7 ≡ 27
 
--- "The signal is at k when m(k) to m(k+5) are 0, 0, 1, 0, 1, 1."
+-- the signal is at k: six marks from k on are 0, 0, 1, 0, 1, 1
 abbrev pub Signal : List ℕ → ℕ → ℕ → Type 0
 Signal s p k = (i : ℕ) → i < 6 → mark s p (k + i) ≡ getD signal i 0
 
--- "the signal at k and at k + 8j, where j is 1, 2 or 3 and k + 8j + 5 is at most 31"
+-- it is there once more 8j marks on, 2j ms later, and all of it among the 32 marks of 8 ms
 pub record Pair (s : List ℕ) (p k : ℕ) : Type 0 where
   pub here : Signal s p k
   pub j : ℕ

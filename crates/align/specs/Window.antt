@@ -1,18 +1,13 @@
--- What the search's windows say of the 56 places from octet i on: a place that can stand has its bit 1, and a 1 too many costs only time.
-use Prim.Native.Nat.{ℕ, _+_, _*_, _/_, _%_, _^_, _≤_, _<_}
+-- For private functions alone. What the search's windows say of the 56 places from octet i on: a place that can stand
+-- has its bit 1, and a 1 too many costs only time.
+use Prim.Native.Nat.{ℕ, _+_, _*_, _≤_, _<_}
 use mathlib.Core.Path.{_≡_}
 use mathlib.Core.List.{List}
 use lib.ListN.{getD}
 use Rattle.line.specs.Bit.{field}
+use Rattle.line.specs.Window.{bitOf, One}
 use Rattle.e1.specs.Frame.{signal}
 use Rattle.align.specs.Stands.{Stands}
-
--- bit n of x, counted from the lowest
-abbrev pub bitOf : ℕ → ℕ → ℕ
-bitOf x n = x / 2 ^ n % 2
-
-abbrev pub One : ℕ → ℕ → Type 0
-One x n = bitOf x n ≡ 1
 
 -- m has a window of each of the first c marks
 abbrev pub Marks : List ℕ → ℕ → ℕ → List ℕ → Type 0
@@ -20,7 +15,8 @@ Marks s i c m = (k : ℕ) → k < c → getD m k 0 ≡ field s (8 * (i + 32 + 64
 
 -- r has a 1 where six windows have 0, 0, 1, 0, 1, 1
 abbrev pub SignalIn : ℕ → ℕ → ℕ → ℕ → ℕ → ℕ → ℕ → Type 0
-SignalIn a b c d e f r = (n : ℕ) → n < 64 → bitOf a n ≡ 0 → bitOf b n ≡ 0 → One c n → bitOf d n ≡ 0 → One e n → One f n → One r n
+SignalIn a b c d e f r =
+    (n : ℕ) → n < 64 → bitOf a n ≡ 0 → bitOf b n ≡ 0 → One c n → bitOf d n ≡ 0 → One e n → One f n → One r n
 
 -- x has a 1 where the marks from k on are the signal
 abbrev pub SignalFrom : List ℕ → ℕ → ℕ → Type 0
@@ -32,7 +28,8 @@ Signals m c g = (k : ℕ) → k < c → SignalFrom m k (getD g k 0)
 
 -- r has a 1 where one of the first c k has the signal at k and once more
 abbrev pub Pairs : List ℕ → ℕ → ℕ → Type 0
-Pairs g c r = (k : ℕ) → k < c → (n : ℕ) → One (getD g k 0) n → (j : ℕ) → 1 ≤ j → j ≤ 3 → One (getD g (k + 8 * j) 0) n → One r n
+Pairs g c r =
+    (k : ℕ) → k < c → (n : ℕ) → One (getD g k 0) n → (j : ℕ) → 1 ≤ j → j ≤ 3 → One (getD g (k + 8 * j) 0) n → One r n
 
 -- none of them stands
 abbrev pub NoneStands : List ℕ → ℕ → Type 0

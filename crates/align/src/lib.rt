@@ -6,9 +6,10 @@ ghost use lib.ListN.{length};
 ghost use Rattle.line.specs.Bit.{Room};
 ghost use Rattle.align.specs.Place.{basic, signalAt, againAt, pairAt, firstStanding, found};
 ghost use Rattle.align.specs.Stands.{Basic};
-ghost use Rattle.align.specs.Window.{One, Marks, SignalIn, Signals, Pairs, NoneStands};
+ghost use Rattle.line.specs.Window.{One};
+ghost use Rattle.align.specs.Window.{Marks, SignalIn, Signals, Pairs, NoneStands};
 
-// the place and its least k
+// the place that stands, with its least k, or that none does
 pub enum Found {
     At { place: usize, k: usize },
     Nothing,
@@ -43,7 +44,7 @@ fn again(s: &[u8], p: usize, k: usize, j: usize) -> bool
     k + 8 * j + 5 <= 31 && signal(s, p, k + 8 * j)
 }
 
-// the signal at k and once more
+// the signal at k, and again 8, 16 or 24 marks later
 fn pair(s: &[u8], p: usize, k: usize) -> bool
     requires { ⌜ Room (now s) p 16384 × (k ≤ 18) ⌝ }
     ensures { λ r. ⌜ r ≡ pairAt (now (s .entry)) p k ⌝ }
@@ -51,7 +52,7 @@ fn pair(s: &[u8], p: usize, k: usize) -> bool
     signal(s, p, k) && (again(s, p, k, 1) || (again(s, p, k, 2) || again(s, p, k, 3)))
 }
 
-// where the word 0011011 ends in both of two windows; it is 0, 011, 011
+// bit n is set where 0011011, which is 0, 011, 011, ends there in both windows
 fn words(v: u64, w: u64) -> u64
     ensures { λ r. ⌜ ((n : ℕ) → n < 57 → v / 2 ^ n % 2 ^ 7 ≡ 27 → w / 2 ^ n % 2 ^ 7 ≡ 27 → One r n) ⌝ }
 {
@@ -103,7 +104,7 @@ fn signals(m: &[u64; 32]) -> [u64; 43]
     g
 }
 
-// where it is at some k and once more
+// where a signal recurs 8, 16 or 24 marks later
 fn pairs(g: &[u64; 43]) -> u64
     ensures { λ r. ⌜ Pairs (now (g .entry)) 19 r ⌝ }
 {
@@ -128,7 +129,8 @@ fn none_stands(s: &[u8], i: usize) -> bool
     h & (pairs(&g) >> 7) == 0
 }
 
-// the first place that stands, with its least k; at an octet's start 56 places are left out where none of them can stand
+// the first place that stands, with its least k; at an octet's start 56 places are left out where none of them can
+// stand
 pub fn find(s: &[u8]) -> Found
     requires { ⌜ length (now s) < 2 ^ 60 ⌝ }
     ensures { λ r. ⌜ r ≡ found (firstStanding (now (s .entry))) ⌝ }

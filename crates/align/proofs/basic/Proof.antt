@@ -25,4 +25,5 @@ unfolding basic
 returns-3 c = rw (sym (c .before .is-word .ensures) ∙ c .if1 .left) (c .if1 .left)
 
 pub basic-spec : {M : Type 1} → statement M
-basic-spec = tie.close (tie.spec (search needs) (search needs) (search needs) (search needs) (search needs) returns returns-2 returns-3)
+basic-spec =
+    tie.close (tie.spec (search needs) (search needs) (search needs) (search needs) (search needs) returns returns-2 returns-3)

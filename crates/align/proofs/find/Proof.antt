@@ -1,6 +1,7 @@
--- `find` meets its contract: at the head of the search no place before p stands, and at the head of the inner loop no k before k has a pair.
+-- `find` meets its contract: at the head of the search no place before p stands, and at the head of the inner loop no k
+-- before k has a pair.
 use Prim.Native.Nat.{ℕ, _+_, _*_, _-_, _/_, _%_, _≤_, _<_}
-use mathlib.Core.Path.{_≡_, sym, _∙_}
+use mathlib.Core.Path.{_≡_, refl, sym, _∙_}
 use mathlib.Core.Logic.{⊎-elim}
 use native.Mathlib.Decide.{decLt}
 use native.Mathlib.Omega.{arith}
@@ -8,7 +9,8 @@ use borrow.Author.Count.{below-more}
 use denote.Ref.{now}
 use lib.ListN.{length}
 use Rattle.align.specs.Stands.{Pair, Stands}
-use Rattle.align.specs.Laws.{denies, basic-holds, pair-holds, pair-below, first-stands, none-stands}
+use Rattle.base.proofs.ChoiceLaws.{denies}
+use Rattle.align.proofs.Laws.{basic-holds, pair-holds, pair-below, first-stands, none-stands}
 use Rattle.align.proofs.find.Statement.{statement}
 use Rattle.align.proofs.find.Tie as tie
 
@@ -25,7 +27,8 @@ abbrev μ-search : tie.MeasureT-search
 μ-search s bits p₀ p = 8 * length s - p
 
 -- what holds before p and at m places from there on
-skipped : (P : ℕ → Type 0) (p m : ℕ) → ((q : ℕ) → q < p → P q) → p % 8 ≡ 0 → ((o : ℕ) → o < m → P (8 * (p / 8) + o)) → (q : ℕ) → q < p + m → P q
+skipped : (P : ℕ → Type 0) (p m : ℕ) → ((q : ℕ) → q < p → P q) → p % 8 ≡ 0 → ((o : ℕ) → o < m → P (8 * (p / 8) + o))
+    → (q : ℕ) → q < p + m → P q
 skipped P p m below e here q h =
     elim (decLt q p) [
       | yes l ↦ below q l
@@ -80,7 +83,7 @@ returns-2 c =
       pair = pair-holds s p k .0 (sym (c .before .pair .ensures) ∙ c .if5 .taken);
       least = l .loop .inv .1;
     } in
-    rw (first-stands s p k .1 (record { stands = w; before = λ q j h. at .search .inv .1 q h j }))
+    rw (first-stands s p k .1 (record { stands = w; before = λ q j h. at .search .inv .1 q h j })) refl
 
 pub find-spec : {M : Type 1} → statement M
 find-spec =

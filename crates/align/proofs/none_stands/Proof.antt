@@ -10,15 +10,18 @@ use lib.ListN.{getD}
 use Rattle.line.specs.Bit.{bitAt}
 use Rattle.e1.specs.Frame.{signal}
 use Rattle.align.specs.Stands.{Signal, Pair}
-use Rattle.align.specs.Window.{bitOf, One, Marks, Signals, Pairs}
-use Rattle.align.proofs.Bits.{shifted-bit, and-one, zero-none, bit-at}
+use Rattle.line.specs.Window.{bitOf, One}
+use Rattle.align.specs.Window.{Marks, Signals, Pairs}
+use Rattle.line.proofs.WindowLaws.{shifted-bit, and-one, zero-none, bit-at}
 use Rattle.align.proofs.none_stands.Statement.{statement}
 use Rattle.align.proofs.none_stands.Tie as tie
 
 module _ (s : List ℕ) (i o : ℕ) (m : List ℕ) (h : o < 64) (marks : Marks s i 32 m) where
-  signal-marks : (k : ℕ) → k < 27 → Signal s (8 * i + o) k → (j : ℕ) → j < 6 → bitOf (getD m (k + j) 0) (63 - o) ≡ getD signal j 0
+  signal-marks : (k : ℕ) → k < 27 → Signal s (8 * i + o) k → (j : ℕ) → j < 6
+      → bitOf (getD m (k + j) 0) (63 - o) ≡ getD signal j 0
   signal-marks k l e j g =
-      bit-at s (8 * (i + 32 + 64 * (k + j))) o (63 - o) _ (marks (k + j) (omega arith)) (omega arith) ∙ ap (bitAt s) (omega arith) ∙ e j g
+      bit-at s (8 * (i + 32 + 64 * (k + j))) o (63 - o) _ (marks (k + j) (omega arith)) (omega arith)
+      ∙ ap (bitAt s) (omega arith) ∙ e j g
 
   pair-one : (g : List ℕ) (r k : ℕ) → Signals m 27 g → Pairs g 19 r → Pair s (8 * i + o) k → One r (63 - o)
   pair-one g r k signals pairs e =
@@ -30,7 +33,8 @@ none-left : (x n : ℕ) → x ≡ 0 → One x n → ⊥
 none-left x n z e = zero-none n (sym (ap (λ a. bitOf a n) z) ∙ e)
 
 returns : tie.Need-returns
-returns c e o l k h = none-left (c .before .starts .result) (56 - o) (c .if1 .taken) (c .before .starts .ensures o l (h .basic))
+returns c e o l k h =
+    none-left (c .before .starts .result) (56 - o) (c .if1 .taken) (c .before .starts .ensures o l (h .basic))
 
 returns-2 : tie.Need-returns-2
 returns-2 c e o l k h =

@@ -33,4 +33,5 @@ unfolding pairAt
 returns-4 c = rw (sym (c .before .signal .ensures) ∙ c .if1 .left) (c .if1 .left)
 
 pub pair-spec : {M : Type 1} → statement M
-pair-spec = tie.close (tie.spec (search needs) (search needs) (search needs) (search needs) returns returns-2 returns-3 returns-4)
+pair-spec =
+    tie.close (tie.spec (search needs) (search needs) (search needs) (search needs) returns returns-2 returns-3 returns-4)

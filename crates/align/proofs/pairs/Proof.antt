@@ -5,8 +5,9 @@ use borrow.Author.Count.{below-more}
 use denote.Ref.{now}
 use lib.Bits.{bitAnd, bitOr}
 use lib.ListN.{getD}
-use Rattle.align.specs.Window.{One, Pairs}
-use Rattle.align.proofs.Bits.{and-one, or-one-l, or-one-r}
+use Rattle.line.specs.Window.{One}
+use Rattle.align.specs.Window.{Pairs}
+use Rattle.line.proofs.WindowLaws.{and-one, or-one-l, or-one-r}
 use Rattle.align.proofs.pairs.Statement.{statement}
 use Rattle.align.proofs.pairs.Tie as tie
 

@@ -9,8 +9,8 @@ use denote.Ref.{now}
 use lib.Bits.{bitAnd}
 use lib.Dec.{eqb}
 use lib.ListN.{getD}
-use Rattle.line.specs.Tab.{all}
-use Rattle.line.specs.TabLaws.{all-more, all-fails}
+use Rattle.base.specs.Tab.{all}
+use Rattle.base.proofs.TabLaws.{all-more, all-fails}
 use Rattle.e1.specs.Frame.{signal}
 use Rattle.align.specs.Place.{mark, signalAt}
 use Rattle.align.proofs.signal.Statement.{statement}

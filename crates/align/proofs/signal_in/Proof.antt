@@ -1,6 +1,6 @@
 -- `signal_in` meets its contract.
 use native.Mathlib.Omega.{arith}
-use Rattle.align.proofs.Bits.{and-one, not-one}
+use Rattle.line.proofs.WindowLaws.{and-one, not-one}
 use Rattle.align.proofs.signal_in.Statement.{statement}
 use Rattle.align.proofs.signal_in.Tie as tie
 

@@ -6,7 +6,8 @@ use native.Mathlib.Omega.{arith}
 use borrow.Author.Needs.{needs}
 use denote.Ref.{now}
 use lib.ListN.{length, getD, length-set}
-use Rattle.align.specs.Window.{bitOf, SignalFrom, Signals}
+use Rattle.line.specs.Window.{bitOf}
+use Rattle.align.specs.Window.{SignalFrom, Signals}
 use Rattle.align.proofs.Rows.{put-more}
 use Rattle.align.proofs.signals.Statement.{statement}
 use Rattle.align.proofs.signals.Tie as tie

@@ -6,14 +6,15 @@ use borrow.Author.Needs.{needs}
 use denote.Ref.{now}
 use Rattle.line.specs.Bit.{field, bitAt}
 use Rattle.align.specs.Stands.{Basic}
-use Rattle.align.specs.Window.{bitOf, One}
-use Rattle.align.proofs.Bits.{shifted-bit, and-one, field-at, bit-at}
+use Rattle.line.specs.Window.{bitOf, One}
+use Rattle.line.proofs.WindowLaws.{shifted-bit, and-one, field-at, bit-at}
 use Rattle.align.proofs.starts.Statement.{statement}
 use Rattle.align.proofs.starts.Tie as tie
 
 -- both words end where the windows say
 ends : (c : tie.After-words) (o : ℕ) → o < 56
-    → (let a = c .before .before .before .before .args in Basic (now (a .s)) (8 * a .i + o)) → One (c .words .result) (56 - o)
+    → (let a = c .before .before .before .before .args in Basic (now (a .s)) (8 * a .i + o))
+    → One (c .words .result) (56 - o)
 ends c o h b =
     let one = c .before .before in
     let two = c .before in

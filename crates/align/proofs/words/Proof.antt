@@ -4,8 +4,8 @@ use mathlib.Core.Path.{_≡_, refl, sym, ap, _∙_}
 use native.Mathlib.Omega.{arith}
 use lib.Bits.{bitAnd, bitOr, or-lt}
 use lib.Pow.{shr-le, shr-shr}
-use Rattle.align.specs.Window.{bitOf, One}
-use Rattle.align.proofs.Bits.{shifted-bit, low-bit, and-one, or-zero, not-one}
+use Rattle.line.specs.Window.{bitOf, One}
+use Rattle.line.proofs.WindowLaws.{shifted-bit, low-bit, and-one, or-zero, not-one}
 use Rattle.align.proofs.words.Statement.{statement}
 use Rattle.align.proofs.words.Tie as tie
 
@@ -46,7 +46,8 @@ module _ (v w : ℕ) (lv : v < 2 ^ 64) (lw : w < 2 ^ 64) where
     none j k m g z d = rw d (or-zero v w (n + k) (bit-of-word v n e j k g ∙ z) (bit-of-word w n f j k g ∙ z))
 
     here : One threes n
-    here = three n (omega arith) (none 4 2 (n + 2) refl refl refl) (ones 5 1 (n + 1) refl refl refl) (ones 6 0 n refl refl (omega arith))
+    here =
+        three n (omega arith) (none 4 2 (n + 2) refl refl refl) (ones 5 1 (n + 1) refl refl refl) (ones 6 0 n refl refl (omega arith))
 
     above : One threes (n + 3)
     above =
@@ -54,7 +55,8 @@ module _ (v w : ℕ) (lv : v < 2 ^ 64) (lw : w < 2 ^ 64) where
         (none 1 5 (n + 3 + 2) refl refl (omega arith)) (ones 2 4 (n + 3 + 1) refl refl (omega arith)) (ones 3 3 (n + 3) refl refl refl)
 
     whole : One (bitAnd (bitAnd (2 ^ 64 - 1 - any / 2 ^ 6) (threes / 2 ^ 3)) threes) n
-    whole = and-one _ _ n (and-one _ _ n (turned-one any n 6 few (omega arith) (none 0 6 (n + 6) refl refl refl)) (shifted-one threes n 3 above)) here
+    whole =
+        and-one _ _ n (and-one _ _ n (turned-one any n 6 few (omega arith) (none 0 6 (n + 6) refl refl refl)) (shifted-one threes n 3 above)) here
 
 returns : tie.Need-returns
 returns c n h e f = whole (c .args .v) (c .args .w) (omega arith) (omega arith) n h e f

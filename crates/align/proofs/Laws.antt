@@ -1,7 +1,7 @@
--- The place that is worked out is the one that the paper's words name, both ways.
+-- The place that is worked out is the one that the words of KIT §4 name, both ways.
 use Prim.Native.Nat.{ℕ, zero, suc, _+_, _*_, _≤_, _<_}
 use mathlib.Core.Path.{_≡_, refl, sym, ap, ap₂, _∙_}
-use mathlib.Core.Bool.{Bool, true, false, cond, _&&_, _||_, true≢false, and-eq-true-iff, or-true}
+use mathlib.Core.Bool.{Bool, true, false, cond, _&&_, _||_, and-eq-true-iff, or-true}
 use mathlib.Core.List.{List}
 use mathlib.Core.Logic.{_↔_}
 use mathlib.Core.Option.{Option, none, some, Option·none-ne-some, Option·some-injective}
@@ -11,16 +11,14 @@ use borrow.Author.Tests.{leb-true, le-leb, eqb-true, eq-eqb}
 use lib.Dec.{eqb, leb}
 use lib.ListN.{length, getD}
 use Rattle.line.specs.Bit.{bitAt, field}
-use Rattle.line.specs.Tab.{least}
-use Rattle.line.specs.TabLaws.{all-at, at-all, least-some, first-some, first-none, none-first, some-first}
+use Rattle.base.specs.Tab.{least}
+use Rattle.base.proofs.ChoiceLaws.{denies}
+use Rattle.base.proofs.TabLaws.{all-at, at-all, least-some, least-none, first-some, first-none, none-first, some-first}
 use Rattle.e1.specs.Frame.{wordAt, signal}
-use Rattle.align.specs.Place.{basic, mark, signalAt, againAt, pairAt, Standing, withPlace, standing, firstStanding, found}
+use Rattle.align.specs.Place.{basic, mark, signalAt, againAt, pairAt, Standing, withPlace, standing}
+use Rattle.align.specs.Place.{firstStanding, found}
 use Rattle.align.specs.Stands.{Basic, Signal, Pair, Stands, StandsFirst}
 use Rattle.align.specs.declared.Found.the-variants.{At, Nothing}
-
--- a test that says when P holds, and fails
-pub denies : {b : Bool} {P : Type 0} → (b ≡ true ↔ P) → b ≡ false → P → ⊥
-denies h e p = true≢false (sym (h .1 p) ∙ e)
 
 -- one of j = 1, 2, 3 passes
 some-j-passes : (t : ℕ → Bool) → t 1 || (t 2 || t 3) ≡ true ↔ ((j : ℕ) × (1 ≤ j) × (j ≤ 3) × (t j ≡ true))
@@ -91,7 +89,8 @@ module _ (s : List ℕ) (p : ℕ) where
   pair-below k h = omega arith
 
   -- what `standing` is worked out from
-  from-cond : (b : Bool) (o : Option ℕ) (w : Standing) → cond b (withPlace p o) none ≡ some w → (b ≡ true) × (o ≡ some (w .k)) × (w .place ≡ p)
+  from-cond : (b : Bool) (o : Option ℕ) (w : Standing) → cond b (withPlace p o) none ≡ some w
+      → (b ≡ true) × (o ≡ some (w .k)) × (w .place ≡ p)
   from-cond false o w e = absurd (Option·none-ne-some w e)
   from-cond true none w e = absurd (Option·none-ne-some w e)
   from-cond true (some k) w e =
@@ -133,6 +132,24 @@ module _ (s : List ℕ) (p : ℕ) where
       go none e = refl
       go (some w) e = absurd (h (w .k) (some-stands w e .1))
 
+  -- where some k is there, there is a least
+  pub some-k : (k : ℕ) → p + 16384 ≤ 8 * length s → Basic s p → Pair s p k → (l : ℕ) × Stands s p l
+  some-k k room basic pair = go (least 32 (pairAt s p)) refl
+    where
+      go : (o : Option ℕ) → least 32 (pairAt s p) ≡ o → (l : ℕ) × Stands s p l
+      go none e =
+          absurd (denies (pair-holds k) (least-none 32 (pairAt s p) e k (omega (arith, pair-below k pair))) pair)
+      go (some l) e =
+          let h = least-some 32 (pairAt s p) l .0 e in (
+            l,
+            record {
+              room = room;
+              basic = basic;
+              pair = pair-holds l .0 (h .passes);
+              least = λ j g. denies (pair-holds j) (h .before j g);
+            },
+          )
+
 module _ (s : List ℕ) where
   -- the place and the k that are worked out are those of the first place that stands
   pub first-stands : (p k : ℕ) → firstStanding s ≡ some (record { place = p; k = k }) ↔ StandsFirst s p k
@@ -161,7 +178,8 @@ module _ (s : List ℕ) where
   none-stands = (there, back)
     where
       there : firstStanding s ≡ none → (p k : ℕ) → Stands s p k → ⊥
-      there e p k h = Option·none-ne-some _ (sym (first-none (8 * length s) (standing s) e p (omega (arith, h .room))) ∙ stands-here s p k .1 h)
+      there e p k h =
+          Option·none-ne-some _ (sym (first-none (8 * length s) (standing s) e p (omega (arith, h .room))) ∙ stands-here s p k .1 h)
 
       back : ((p k : ℕ) → Stands s p k → ⊥) → firstStanding s ≡ none
       back h = none-first (8 * length s) (standing s) (λ p l. none-here s p (h p))
@@ -172,6 +190,14 @@ module _ (s : List ℕ) where
       let e = Option·some-injective _ _ (sym (first-stands p k .1 h) ∙ first-stands q l .1 g) in
       (ap (λ (x : Standing). x .place) e, ap (λ (x : Standing). x .k) e)
 
+  -- no place stands exactly if none has room, basic alignment and some k, the least or not
+  pub none-at-all : ((p k : ℕ) → Stands s p k → ⊥)
+      ↔ ((p k : ℕ) → p + 16384 ≤ 8 * length s → Basic s p → Pair s p k → ⊥)
+  none-at-all = (
+    λ n p k room basic pair. let w = some-k s p k room basic pair in n p (w .0) (w .1),
+    λ n p k h. n p k (h .room) (h .basic) (h .pair),
+  )
+
 -- what the search answers
 pub found-at : (o : Option Standing) (p k : ℕ) → found o ≡ At p k → o ≡ some (record { place = p; k = k })
 found-at (some w) p k e = ap₂ (λ a b. some (record { place = a; k = b })) (cc) (cc)
@@ -181,8 +207,25 @@ pub found-nothing : (o : Option Standing) → found o ≡ Nothing → o ≡ none
 found-nothing (some w) e = let z : _≡_ {A = ℕ} 0 1 = cc in absurd (omega arith)
 found-nothing none e = refl
 
+-- that is, the first place that stands, or that none does
+pub finds-at : (s : List ℕ) (p k : ℕ) → found (firstStanding s) ≡ At p k ↔ StandsFirst s p k
+finds-at s p k = (
+  λ e. first-stands s p k .0 (found-at (firstStanding s) p k e),
+  λ h. ap found (first-stands s p k .1 h),
+)
+
+pub finds-nothing : (s : List ℕ) → found (firstStanding s) ≡ Nothing ↔ ((p k : ℕ) → Stands s p k → ⊥)
+finds-nothing s = (
+  λ e. none-stands s .0 (found-nothing (firstStanding s) e),
+  λ h. ap found (none-stands s .1 h),
+)
+
 -- the bits from the place on are there, and k is at most 18
-pub first-within : (s : List ℕ) (p k : ℕ) → firstStanding s ≡ some (record { place = p; k = k }) → (p + 16384 ≤ 8 * length s) × (k < 19)
+pub first-within : (s : List ℕ) (p k : ℕ) → firstStanding s ≡ some (record {
+  place =
+      p;
+  k = k;
+}) → (p + 16384 ≤ 8 * length s) × (k < 19)
 first-within s p k e =
     let h = first-stands s p k .0 e .stands in
     (h .room, pair-below s p k (h .pair))
