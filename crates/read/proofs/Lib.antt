@@ -1,3 +1,5 @@
+pub mod Laws
+pub mod EntryLaws
 pub mod Slots
 pub mod Words
 pub mod Counts

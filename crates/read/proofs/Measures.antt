@@ -7,11 +7,14 @@ use native.Mathlib.Omega.{arith}
 use lib.ListN.{length, drop}
 use Rattle.line.specs.Bit.{Room}
 use Rattle.align.specs.Place.{firstStanding}
-use Rattle.align.specs.Laws.{first-within}
-use Rattle.read.specs.Reading.{whole, loss, lostAt, usedOf, payloadOf, slot0Of, wordErrors, compared, errored, farEnd}
-use Rattle.read.specs.Entry.{startIn, wholeIn, usedIn, refusal, Read}
-use Rattle.read.specs.Laws.{used-le, whole-fits}
-use Rattle.read.specs.EntryLaws.{GoodLength, place-is, start-is}
+use Rattle.align.proofs.Laws.{first-within}
+use Rattle.read.specs.Reading.{whole, loss, lostAt, usedOf, payloadOf, slot0Of, wordErrors, compared, errored}
+use Rattle.read.specs.Reading.{farEnd}
+use Rattle.read.specs.Entry.{reading, accept, refuse, startIn, wholeIn, usedIn, refusal, Read, GoodLength}
+use Rattle.read.proofs.Laws.{used-le, whole-fits}
+use Rattle.read.specs.declared.Reading.{Reading}
+use Rattle.read.proofs.EntryLaws.{place-is, start-is}
+use Rattle.base.proofs.AnswerLaws.{accepted-so}
 
 -- the start q, M and G
 pub record Measured (s : List ℕ) (q m g : ℕ) : Type 0 where
@@ -39,31 +42,44 @@ module _ (s : List ℕ) (good : GoodLength s) (p k : ℕ) (e : firstStanding s �
           room = record { countable = omega arith; there = omega (arith, used-le s q m) };
         }
 
-    pub answered : (payload slot0 payload' slot0' : List ℕ) (lost words blocks differing zeros : ℕ)
+    pub answered : (payload slot0 payload' slot0' : List ℕ) (r : Reading)
         → refusal s (length payload) (length slot0) ≡ 0
-        → lost ≡ lostAt (loss s q m)
-        → words ≡ wordErrors s q g
-        → blocks ≡ compared g
-        → differing ≡ errored s q g
-        → zeros ≡ farEnd s q g
+        → r .number ≡ 0
+        → r .place ≡ p
+        → r .start ≡ q
+        → r .whole ≡ m
+        → r .used ≡ g
+        → r .lost ≡ lostAt (loss s q m)
+        → r .words ≡ wordErrors s q g
+        → r .compared ≡ compared g
+        → r .errored ≡ errored s q g
+        → r .farend ≡ farEnd s q g
         → payload' ≡ payloadOf s q g ++ drop (496 * g) payload
         → slot0' ≡ slot0Of s q g ++ drop (16 * g) slot0
-        → Read s payload slot0
-        (record { number = 0; place = p; start = q; whole = m; used = g; lost = lost; words = words; compared = blocks; errored = differing; farend = zeros })
-        payload' slot0'
-    answered payload slot0 payload' slot0' lost words blocks differing zeros n h₁ h₂ h₃ h₄ h₅ h₆ h₇ =
+        → Read s payload slot0 r payload' slot0'
+    unfolding reading accept
+    answered payload slot0 payload' slot0' r n h₀ h₁ h₂ h₃ h₄ h₅ h₆ h₇ h₈ h₉ ep eo =
         let d = measured in
+        let z = refusal s (length payload) (length slot0) in
+        let its : r ≡ accept s = λ i.
         record {
-          its-number = sym n;
-          its-place = place-is s (record { place = p; k = k }) e;
-          its-start = d .at;
-          its-whole = d .of;
-          its-used = d .upto;
-          its-lost = h₁ ∙ ap₂ (λ x y. lostAt (loss s x y)) (d .at) (d .of);
-          its-words = h₂ ∙ ap₂ (wordErrors s) (d .at) (d .upto);
-          its-compared = h₃ ∙ ap compared (d .upto);
-          its-errored = h₄ ∙ ap₂ (errored s) (d .at) (d .upto);
-          its-farend = h₅ ∙ ap₂ (farEnd s) (d .at) (d .upto);
-          its-payload = h₆ ∙ ap₂ (λ x y. payloadOf s x y ++ drop (496 * y) payload) (d .at) (d .upto);
-          its-slot0 = h₇ ∙ ap₂ (λ x y. slot0Of s x y ++ drop (16 * y) slot0) (d .at) (d .upto);
+          number = h₀ i;
+          place = (h₁ ∙ place-is s (record { place = p; k = k }) e) i;
+          start = (h₂ ∙ d .at) i;
+          whole = (h₃ ∙ d .of) i;
+          used = (h₄ ∙ d .upto) i;
+          lost = (h₅ ∙ ap₂ (λ x y. lostAt (loss s x y)) (d .at) (d .of)) i;
+          words = (h₆ ∙ ap₂ (wordErrors s) (d .at) (d .upto)) i;
+          compared = (h₇ ∙ ap compared (d .upto)) i;
+          errored = (h₈ ∙ ap₂ (errored s) (d .at) (d .upto)) i;
+          farend = (h₉ ∙ ap₂ (farEnd s) (d .at) (d .upto)) i;
+        } in
+        let wholly = payloadOf s (startIn s) (usedIn s) ++ drop (496 * usedIn s) payload in
+        let slots = slot0Of s (startIn s) (usedIn s) ++ drop (16 * usedIn s) slot0 in
+        record {
+          its-answer = its ∙ sym (accepted-so z (accept s) (refuse z) n);
+          its-payload = ep ∙ ap₂ (λ x y. payloadOf s x y ++ drop (496 * y) payload) (d .at) (d .upto)
+              ∙ sym (accepted-so (r .number) wholly payload h₀);
+          its-slot0 = eo ∙ ap₂ (λ x y. slot0Of s x y ++ drop (16 * y) slot0) (d .at) (d .upto)
+              ∙ sym (accepted-so (r .number) slots slot0 h₀);
         }

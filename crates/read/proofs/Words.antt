@@ -8,8 +8,8 @@ use native.Mathlib.Numerals.{add-one}
 use native.Mathlib.Omega.{arith}
 use borrow.Author.Tests.{leb-true, le-leb}
 use lib.Dec.{leb, leb·suc-suc}
-use Rattle.line.specs.Tab.{sum, count, first, least}
-use Rattle.line.specs.TabLaws.{count-yes, count-no, count-le, least-more, least-less, some-least}
+use Rattle.base.specs.Tab.{sum, count, first, least}
+use Rattle.base.proofs.TabLaws.{count-yes, count-no, count-le, least-more, least-less, some-least}
 use Rattle.read.specs.Reading.{wrong, threeWrong, loss, wordErrors}
 
 -- the word k even frames before that of frame 2i is there, and wrong
@@ -77,7 +77,8 @@ module _ {s : List ℕ} {q i : ℕ} {earlier last : Bool} {n words : ℕ} (p : P
     pub count-right : this ≡ false → n ≡ count (i + 1) (wrong s q)
     count-right e = p .its-count ∙ sym (count-no i (wrong s q) (sym t ∙ e))
 
-    pub word-more : earlier && (last && this) ≡ false → {n' words' : ℕ} → n' ≡ count (i + 1) (wrong s q) → words' ≡ wordErrors s q ((i + 1) / 8)
+    pub word-more : earlier && (last && this) ≡ false → {n' words' : ℕ} → n' ≡ count (i + 1) (wrong s q)
+        → words' ≡ wordErrors s q ((i + 1) / 8)
         → Passed s q (i + 1) last this n' words'
     word-more f k w =
         record {

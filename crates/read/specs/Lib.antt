@@ -1,4 +1,3 @@
 pub mod Reading
+pub mod Loss
 pub mod Entry
-pub mod Laws
-pub mod EntryLaws

@@ -1,13 +1,15 @@
--- What is read from a multiframe start q on, in an image of any length. Frames are numbered from q; m and g are numbers of multiframes.
+-- What is read from a multiframe start q on (KIT §5), in an image of any length. Frames are numbered from q; m and g
+-- are numbers of multiframes.
 use Prim.Native.Nat.{ℕ, _+_, _-_, _*_, _/_}
-use mathlib.Core.Bool.{Bool, _&&_, not, cond}
+use mathlib.Core.Bool.{Bool, _&&_, not}
 use mathlib.Core.List.{List}
 use mathlib.Core.Option.{Option, none, some}
 use lib.Dec.{leb, ltb}
 use lib.ListN.{length}
 use Rattle.line.specs.Bit.{bitAt, octetAt}
-use Rattle.line.specs.Tab.{tab, sum, count, least}
-use Rattle.e1.specs.Frame.{frame, slot, wordAt}
+use Rattle.base.specs.Choice.{if_then_else_}
+use Rattle.base.specs.Tab.{tab, sum, count, least}
+use Rattle.e1.specs.Frame.{frameAt, slotAt, wordAt}
 use Rattle.e1.specs.Block.{agrees}
 use Rattle.e1.specs.Payload.{frameOf, slotOf}
 
@@ -17,7 +19,7 @@ whole s q = (8 * length s - q) / 4096
 
 -- the word of the even frame 2i is wrong
 unfoldable pub wrong : List ℕ → ℕ → ℕ → Bool
-wrong s q i = not (wordAt s (frame q (2 * i)))
+wrong s q i = not (wordAt s (frameAt q (2 * i)))
 
 -- the words of f - 4, f - 2 and f are all wrong, f = 2i at least 4
 unfoldable pub threeWrong : List ℕ → ℕ → ℕ → Bool
@@ -39,11 +41,11 @@ usedOf none m = m
 
 -- slots 1 to 31 of n frames, in the payload's order
 unfoldable pub slots : List ℕ → ℕ → ℕ → List ℕ
-slots s q n = tab (31 * n) (λ i. octetAt s (slot q (frameOf i) (slotOf i)))
+slots s q n = tab (31 * n) (λ i. octetAt s (slotAt q (frameOf i) (slotOf i)))
 
 -- slot 0 of n frames
 unfoldable pub slots0 : List ℕ → ℕ → ℕ → List ℕ
-slots0 s q n = tab n (λ f. octetAt s (slot q f 0))
+slots0 s q n = tab n (λ f. octetAt s (slotAt q f 0))
 
 -- the two outputs of g multiframes
 abbrev pub payloadOf : List ℕ → ℕ → ℕ → List ℕ
@@ -61,17 +63,17 @@ abbrev pub compared : ℕ → ℕ
 compared g = 2 * g - 1
 
 -- block b agrees with the check bits after it
-abbrev pub clean : List ℕ → ℕ → ℕ → Bool
-clean s q b = agrees s (q + 2048 * b)
+abbrev pub agreesIn : List ℕ → ℕ → ℕ → Bool
+agreesIn s q b = agrees s (q + 2048 * b)
 
 -- the compared blocks that differ
 unfoldable pub errored : List ℕ → ℕ → ℕ → ℕ
-errored s q g = count (compared g) (λ b. not (clean s q b))
+errored s q g = count (compared g) (λ b. not (agreesIn s q b))
 
--- the E bits of multiframe m that are 0: bit 1 of its frames 13 and 15
+-- the E bits (G.704, 2.3.3.4) of multiframe m that are 0: bit 1 of its frames 13 and 15
 abbrev pub zerosE : List ℕ → ℕ → ℕ → ℕ
-zerosE s q m = (1 - bitAt s (frame q (16 * m + 13))) + (1 - bitAt s (frame q (16 * m + 15)))
+zerosE s q m = (1 - bitAt s (frameAt q (16 * m + 13))) + (1 - bitAt s (frameAt q (16 * m + 15)))
 
 -- counted only in multiframes whose second block was compared and agreed
 unfoldable pub farEnd : List ℕ → ℕ → ℕ → ℕ
-farEnd s q g = sum g (λ m. cond (ltb (2 * m + 1) (compared g) && clean s q (2 * m + 1)) (zerosE s q m) 0)
+farEnd s q g = sum g (λ m. if ltb (2 * m + 1) (compared g) && agreesIn s q (2 * m + 1) then zerosE s q m else 0)

@@ -5,11 +5,11 @@ ghost use mathlib.Core.Option.{some};
 ghost use Prim.Native.Nat.{_+_, _*_, _^_, _<_, _≤_};
 ghost use lib.ListN.{length, drop};
 ghost use Rattle.line.specs.Bit.{Room, octetAt};
-ghost use Rattle.line.specs.Tab.{tab};
+ghost use Rattle.base.specs.Tab.{tab};
 ghost use Rattle.align.specs.Place.{firstStanding};
-ghost use Rattle.read.specs.Reading.{wrong, loss, lostAt, usedOf, slots, payloadOf, slot0Of, wordErrors, compared, errored, zerosE, farEnd};
-ghost use Rattle.read.specs.Entry.{Read};
-ghost use Rattle.read.specs.EntryLaws.{GoodLength, refuse};
+ghost use Rattle.read.specs.Reading.{wrong, loss, lostAt, usedOf, slots, payloadOf, slot0Of, wordErrors};
+ghost use Rattle.read.specs.Reading.{compared, errored, zerosE, farEnd};
+ghost use Rattle.read.specs.Entry.{Read, GoodLength, refuse};
 
 // What is read: the number is 0, or the refusal's with zeros beside it.
 pub struct Reading {
@@ -95,7 +95,7 @@ fn run_at(s: &[u8], p: usize) -> [u8; 16]
     octets
 }
 
-// the same, to its part of the output
+// writes that run to `out`
 fn put_run(s: &[u8], p: usize, out: &mut [u8])
     requires { ⌜ Room (now s) p 128 × (length (now out) ≡ 16) ⌝ }
     ensures { λ _. ⌜ now (out .exit) ≡ tab 16 (λ j. octetAt (now (s .entry)) (p + 8 * j)) ⌝ }
@@ -107,7 +107,7 @@ fn put_run(s: &[u8], p: usize, out: &mut [u8])
 }
 
 // slots 1 to 31 of the frame at q: two runs, which share slot 16
-fn frame(s: &[u8], q: usize, out: &mut [u8])
+fn put_frame(s: &[u8], q: usize, out: &mut [u8])
     requires { ⌜ Room (now s) q 256 × (length (now out) ≡ 31) ⌝ }
     ensures { λ _. ⌜ now (out .exit) ≡ slots (now (s .entry)) q 1 ⌝ }
 {
@@ -118,13 +118,13 @@ fn frame(s: &[u8], q: usize, out: &mut [u8])
 }
 
 // the frames of the multiframe at q, each to its part of the output
-fn multiframe(s: &[u8], q: usize, out: &mut [u8])
+fn put_multiframe(s: &[u8], q: usize, out: &mut [u8])
     requires { ⌜ Room (now s) q 4096 × (length (now out) ≡ 496) ⌝ }
     ensures { λ _. ⌜ now (out .exit) ≡ slots (now (s .entry)) q 16 ⌝ }
 {
     for f in 0..16 {
         let a = 31 * f;
-        frame(s, q + 256 * f, &mut out[a..a + 31]);
+        put_frame(s, q + 256 * f, &mut out[a..a + 31]);
     }
 }
 
@@ -135,7 +135,7 @@ fn payload_of(s: &[u8], q: usize, g: usize, out: &mut [u8])
 {
     for m in 0..g {
         let a = 496 * m;
-        multiframe(s, q + 256 * (16 * m), &mut out[a..a + 496]);
+        put_multiframe(s, q + 256 * (16 * m), &mut out[a..a + 496]);
     }
 }
 

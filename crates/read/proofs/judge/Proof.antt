@@ -4,7 +4,8 @@ use mathlib.Core.Path.{sym, _∙_}
 use mathlib.Core.Logic.{⊎-elim}
 use native.Mathlib.Omega.{arith}
 use borrow.Author.Tests.{not-true, not-false}
-use Rattle.read.proofs.Counts.{Before, none-before, errored-below, block-differs, block-first, block-second, all-before}
+use Rattle.read.proofs.Counts.{Before, none-before, errored-below, block-differs, block-first, block-second}
+use Rattle.read.proofs.Counts.{all-before}
 use Rattle.read.proofs.judge.Statement.{statement}
 use Rattle.read.proofs.judge.Tie as tie
 
@@ -46,7 +47,11 @@ judge-spec =
     (omega arith)
     (λ c κs. record { countable = c .before .before .before .before .pre .countable; there = omega arith })
     (λ c. omega (arith, errored-below (c .before .before .before .loop .inv .1)))
-    (λ c κs. record { countable = c .before .before .before .before .before .before .before .pre .countable; there = omega arith })
+    (λ c κs. record {
+      countable =
+          c .before .before .before .before .before .before .before .pre .countable;
+      there = omega arith;
+    })
     (λ c. omega (arith, c .zeros-e .ensures .1, c .before .before .before .before .before .loop .inv .1 .few))
     (omega arith)
     (omega arith)

@@ -1,9 +1,10 @@
--- `payload_of` meets its contract: at the head of the loop the multiframes before m are written, and the rest is as it was.
+-- `payload_of` meets its contract: at the head of the loop the multiframes before m are written, and the rest is as it
+-- was.
 use Prim.Native.Nat.{_+_, _≤_, _*_, _-_}
 use mathlib.Core.Path.{_≡_, refl, sym, _∙_}
 use native.Mathlib.Omega.{arith}
 use lib.ListN.{length, take, drop}
-use Rattle.line.specs.PartLaws.{part-length}
+use Rattle.base.proofs.PartLaws.{part-length}
 use Rattle.read.specs.Reading.{slots}
 use Rattle.read.proofs.Slots.{slots-none, part-more, part-rest, slots-kept}
 use Rattle.read.proofs.payload_of.Statement.{statement}
@@ -16,8 +17,8 @@ Inv-loop s q g out₀ m₀ out m =
 abbrev μ-loop : tie.MeasureT-loop
 μ-loop s q g out₀ m₀ out m = g - m
 
-multiframe-requires : tie.Need-multiframe-requires Inv-loop μ-loop
-multiframe-requires c κs =
+put-multiframe-requires : tie.Need-put-multiframe-requires Inv-loop μ-loop
+put-multiframe-requires c κs =
     let l = c .before .before in
     let m = l .loop .m in (
       record { countable = l .before .before .before .pre .0 .countable; there = omega arith },
@@ -31,12 +32,12 @@ loop-again c =
     let a = l .before .before .before .args in
     let m = l .loop .m in
     let o = l .loop .out in
-    let y = w .multiframe .last .1 .1 .0 in (
+    let y = w .put-multiframe .last .1 .1 .0 in (
       omega arith,
       c .before .out .given .1 ∙ l .loop .inv .1,
-      part-more (a .s .now) (a .q) (16 * m) 16 (496 * m) (496 * m + 496) o y (omega arith) refl (omega arith) (w .multiframe .ensures)
+      part-more (a .s .now) (a .q) (16 * m) 16 (496 * m) (496 * m + 496) o y (omega arith) refl (omega arith) (w .put-multiframe .ensures)
           (496 * (m + 1)) (16 * (m + 1)) (omega arith) (omega arith) (l .loop .inv .2),
-      part-rest (a .s .now) (a .q) (16 * m) 16 (496 * m) (496 * m + 496) o y (omega arith) refl (omega arith) (w .multiframe .ensures)
+      part-rest (a .s .now) (a .q) (16 * m) 16 (496 * m) (496 * m + 496) o y (omega arith) refl (omega arith) (w .put-multiframe .ensures)
           (496 * (m + 1)) (a .out .now) (omega arith) (l .loop .inv .3),
     )
 
@@ -59,7 +60,7 @@ payload-of-spec =
     (omega arith)
     (omega arith)
     (omega arith)
-    multiframe-requires
+    put-multiframe-requires
     (omega arith)
     (omega arith)
     loop-again

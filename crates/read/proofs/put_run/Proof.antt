@@ -4,7 +4,7 @@ use mathlib.Core.Path.{_≡_, refl, _∙_}
 use native.Mathlib.Omega.{arith}
 use borrow.Author.Needs.{needs}
 use lib.ListN.{length, take, length-set}
-use Rattle.line.specs.PartLaws.{copy-more, copy-done}
+use Rattle.base.proofs.PartLaws.{copy-more, copy-done}
 use Rattle.read.proofs.put_run.Statement.{statement}
 use Rattle.read.proofs.put_run.Tie as tie
 

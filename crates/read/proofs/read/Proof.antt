@@ -4,8 +4,9 @@ use native.Mathlib.Omega.{arith}
 use borrow.Author.Needs.{needs}
 use lib.ListN.{length}
 use Rattle.align.specs.Place.{firstStanding}
-use Rattle.align.specs.Laws.{found-at, found-nothing}
-use Rattle.read.specs.EntryLaws.{GoodLength, number-1, number-2, refused-3, refused-as}
+use Rattle.align.proofs.Laws.{found-at, found-nothing}
+use Rattle.read.specs.Entry.{GoodLength}
+use Rattle.read.proofs.EntryLaws.{number-1, number-2, refused-3, refused-as}
 use Rattle.read.proofs.read.Statement.{statement}
 use Rattle.read.proofs.read.Tie as tie
 

@@ -7,13 +7,14 @@ use borrow.Author.Needs.{needs}
 use borrow.Author.Tests.{ltb-false}
 use lib.Dec.{ltb}
 use lib.ListN.{length}
-use Rattle.read.specs.EntryLaws.{refused-4, accepts, refused-as}
+use Rattle.read.proofs.EntryLaws.{refused-4, accepts, refused-as}
 use Rattle.read.proofs.Measures.{Measured, start-room, measured, answered}
 use Rattle.read.proofs.read_from.Statement.{statement}
 use Rattle.read.proofs.read_from.Tie as tie
 
 -- the bits from the place on are there
-roomy : (c : tie.Start) → (c .args .place + 16384 ≤ 8 * length (c .args .image .now)) × (c .args .k ≤ 18) × (length (c .args .image .now) ≤ 8192)
+roomy : (c : tie.Start)
+    → (c .args .place + 16384 ≤ 8 * length (c .args .image .now)) × (c .args .k ≤ 18) × (length (c .args .image .now) ≤ 8192)
 roomy c = start-room (c .args .image .now) (c .pre .0) (c .args .place) (c .args .k) (c .pre .1)
 
 -- what is measured once the words are judged
@@ -60,8 +61,9 @@ returns-2 c =
     let p = d .args .payload .now in
     let o = d .args .slot0 .now in
     let few = e .if1 .left in
-    answered s (d .pre .0) (d .args .place) (d .args .k) (d .pre .1) _ _ (t .track .result .used) refl refl (t .track .ensures .1) p o _ _ _ _ _ _ _
-    (accepts s (length p) (length o) (d .pre .0) _ (d .pre .1) (rw (facts t .upto) at few))
+    answered s (d .pre .0) (d .args .place) (d .args .k) (d .pre .1) _ _ (t .track .result .used) refl refl (t .track .ensures .1)
+    p o _ _ _ (accepts s (length p) (length o) (d .pre .0) _ (d .pre .1) (rw (facts t .upto) at few))
+    refl refl refl refl refl
     (t .track .ensures .0)
     (t .track .ensures .2)
     (c .judge .ensures .0)

@@ -5,13 +5,14 @@ use native.Mathlib.Omega.{arith}
 use borrow.Author.Needs.{needs}
 use lib.ListN.{length, take, length-set}
 use Rattle.line.specs.Bit.{octetAt}
-use Rattle.line.specs.Tab.{tab, tabFrom}
+use Rattle.base.specs.Tab.{tab, tabFrom}
 use Rattle.read.proofs.Slots.{octet-more, octets-full}
 use Rattle.read.proofs.run_at.Statement.{statement}
 use Rattle.read.proofs.run_at.Tie as tie
 
 abbrev Inv-loop : tie.InvT-loop
-Inv-loop s p octets₀ j₀ octets j = (j ≤ 16) × (length octets ≡ 16) × (take j octets ≡ tab j (λ j. octetAt s (p + 8 * j)))
+Inv-loop s p octets₀ j₀ octets j =
+    (j ≤ 16) × (length octets ≡ 16) × (take j octets ≡ tab j (λ j. octetAt s (p + 8 * j)))
 
 abbrev μ-loop : tie.MeasureT-loop
 μ-loop s p octets₀ j₀ octets j = 16 - j

@@ -1,11 +1,12 @@
--- `slot0_of` meets its contract: at the head of the loop the slots 0 before frame f are written, and the rest is as it was.
+-- `slot0_of` meets its contract: at the head of the loop the slots 0 before frame f are written, and the rest is as it
+-- was.
 use Prim.Native.Nat.{_+_, _≤_, _*_, _-_}
 use mathlib.Core.Path.{_≡_, refl, _∙_, ap}
 use mathlib.Core.List.{_++_}
 use native.Mathlib.Omega.{arith}
 use lib.ListN.{length, drop, length-set}
 use Rattle.line.specs.Bit.{octetAt}
-use Rattle.line.specs.Tab.{tabFrom}
+use Rattle.base.specs.Tab.{tabFrom}
 use Rattle.read.specs.Reading.{slots0}
 use Rattle.read.proofs.Slots.{slot0-more}
 use Rattle.read.proofs.slot0_of.Statement.{statement}

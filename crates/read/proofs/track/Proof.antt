@@ -1,16 +1,19 @@
--- `track` meets its contract: at the head of the loop the words before that of frame 2i are passed, and no loss is among them.
+-- `track` meets its contract: at the head of the loop the words before that of frame 2i are passed, and no loss is
+-- among them.
 use Prim.Native.Nat.{_+_, _≤_, _*_, _-_, _/_}
 use mathlib.Core.Path.{_≡_, sym, ap, _∙_}
 use mathlib.Core.Logic.{⊎-elim}
 use native.Mathlib.Omega.{arith}
-use Rattle.line.specs.Tab.{count}
+use Rattle.base.specs.Tab.{count}
 use Rattle.read.specs.Reading.{wrong, lostAt, usedOf, wordErrors}
-use Rattle.read.proofs.Words.{Passed, none-passed, count-below, count-wrong, count-right, words-more, words-kept, word-more, loss-here, never-lost}
+use Rattle.read.proofs.Words.{Passed, none-passed, count-below, count-wrong, count-right, words-more, words-kept}
+use Rattle.read.proofs.Words.{word-more, loss-here, never-lost}
 use Rattle.read.proofs.track.Statement.{statement}
 use Rattle.read.proofs.track.Tie as tie
 
 abbrev Inv-loop : tie.InvT-loop
-Inv-loop s q m earlier₀ last₀ n₀ words₀ i₀ i-end earlier last n words i = (i ≤ 8 * m) × Passed s q i earlier last n words
+Inv-loop s q m earlier₀ last₀ n₀ words₀ i₀ i-end earlier last n words i =
+    (i ≤ 8 * m) × Passed s q i earlier last n words
 
 abbrev μ-loop : tie.MeasureT-loop
 μ-loop s q m earlier₀ last₀ n₀ words₀ i₀ i-end earlier last n words i = 8 * m - i

@@ -1,21 +1,21 @@
--- `frame` meets its contract: at the head of the loop the octets of h runs are written, of which two share one.
+-- `put_frame` meets its contract: at the head of the loop the octets of h runs are written, of which two share one.
 use Prim.Native.Nat.{ℕ, _+_, _≤_, _*_, _-_}
 use mathlib.Core.Path.{_≡_, refl, _∙_}
 use native.Mathlib.Omega.{arith}
 use lib.ListN.{length, take}
-use Rattle.line.specs.Tab.{tab, tabFrom}
-use Rattle.line.specs.PartLaws.{part-length}
+use Rattle.base.specs.Tab.{tab, tabFrom}
+use Rattle.base.proofs.PartLaws.{part-length}
 use Rattle.read.specs.Reading.{slots}
-use Rattle.read.proofs.Slots.{slotAt, run-more, octets-full}
-use Rattle.read.proofs.frame.Statement.{statement}
-use Rattle.read.proofs.frame.Tie as tie
+use Rattle.read.proofs.Slots.{octetOf, run-more, octets-full}
+use Rattle.read.proofs.put_frame.Statement.{statement}
+use Rattle.read.proofs.put_frame.Tie as tie
 
 -- how many octets h runs are
 abbrev octets : ℕ → ℕ
 octets h = 16 * h - (h - 1)
 
 abbrev Inv-loop : tie.InvT-loop
-Inv-loop s q out₀ h₀ out h = (h ≤ 2) × (length out ≡ 31) × (take (octets h) out ≡ tab (octets h) (slotAt s q))
+Inv-loop s q out₀ h₀ out h = (h ≤ 2) × (length out ≡ 31) × (take (octets h) out ≡ tab (octets h) (octetOf s q))
 
 abbrev μ-loop : tie.MeasureT-loop
 μ-loop s q out₀ h₀ out h = 2 - h
@@ -45,11 +45,11 @@ unfolding slots
 returns c =
     let l = c .before in
     let a = l .before .before .before .args in
-    octets-full (l .loop .out) (octets (l .loop .h)) 31 (slotAt (a .s .now) (a .q)) (omega arith) (omega arith) (l .loop .inv .2)
+    octets-full (l .loop .out) (octets (l .loop .h)) 31 (octetOf (a .s .now) (a .q)) (omega arith) (omega arith) (l .loop .inv .2)
 
-pub frame-spec : {M : Type 1} → statement M
+pub put-frame-spec : {M : Type 1} → statement M
 unfolding tabFrom
-frame-spec =
+put-frame-spec =
     tie.close
     (tie.spec Inv-loop μ-loop
     (λ c. (omega arith, omega arith, refl))

@@ -11,33 +11,35 @@ use borrow.Author.Tests.{leb-true, le-leb, eqb-false, ne-eqb, not-true}
 use lib.Dec.{leb}
 use lib.ListN.{length, getD}
 use Rattle.line.specs.Bit.{field, octetAt}
-use Rattle.line.specs.TabLaws.{length-tab, getD-tab, least-some, least-none, none-least}
-use Rattle.e1.specs.Frame.{frame, slot, wordAt}
+use Rattle.base.proofs.TabLaws.{length-tab, getD-tab, least-some, least-none, none-least}
+use Rattle.e1.specs.Frame.{frameAt, slotAt, wordAt}
 use Rattle.e1.specs.Payload.{indexOf, frameOf, slotOf}
-use Rattle.e1.specs.Laws.{frame-of-index, slot-of-index}
-use Rattle.align.specs.Laws.{denies}
+use Rattle.e1.proofs.Laws.{frame-of-index, slot-of-index}
+use Rattle.base.proofs.ChoiceLaws.{denies}
+use Rattle.read.specs.Loss.{ThreeWrong, Loss}
 use Rattle.read.specs.Reading.{whole, wrong, threeWrong, loss, lostAt, usedOf, slots, slots0, payloadOf, slot0Of}
 
 -- Slots
 
 -- slot j of frame f stands where the payload's order says
-pub slot-of : (s : List ℕ) (q n f j : ℕ) → f < n → 1 ≤ j → j ≤ 31 → getD (slots s q n) (indexOf f j) 0 ≡ octetAt s (slot q f j)
+pub slot-of : (s : List ℕ) (q n f j : ℕ) → f < n → 1 ≤ j → j ≤ 31
+    → getD (slots s q n) (indexOf f j) 0 ≡ octetAt s (slotAt q f j)
 unfolding slots
 slot-of s q n f j h h₁ h₂ =
-    getD-tab (31 * n) (λ i. octetAt s (slot q (frameOf i) (slotOf i))) (indexOf f j) 0 (omega arith)
-    ∙ ap₂ (λ a b. octetAt s (slot q a b)) (frame-of-index f j h₁ h₂) (slot-of-index f j h₁ h₂)
+    getD-tab (31 * n) (λ i. octetAt s (slotAt q (frameOf i) (slotOf i))) (indexOf f j) 0 (omega arith)
+    ∙ ap₂ (λ a b. octetAt s (slotAt q a b)) (frame-of-index f j h₁ h₂) (slot-of-index f j h₁ h₂)
 
-pub slot0-of : (s : List ℕ) (q n f : ℕ) → f < n → getD (slots0 s q n) f 0 ≡ octetAt s (slot q f 0)
+pub slot0-of : (s : List ℕ) (q n f : ℕ) → f < n → getD (slots0 s q n) f 0 ≡ octetAt s (slotAt q f 0)
 unfolding slots0
-slot0-of s q n f h = getD-tab n (λ f. octetAt s (slot q f 0)) f 0 h
+slot0-of s q n f h = getD-tab n (λ f. octetAt s (slotAt q f 0)) f 0 h
 
 pub slots-length : (s : List ℕ) (q n : ℕ) → length (slots s q n) ≡ 31 * n
 unfolding slots
-slots-length s q n = length-tab (31 * n) (λ i. octetAt s (slot q (frameOf i) (slotOf i)))
+slots-length s q n = length-tab (31 * n) (λ i. octetAt s (slotAt q (frameOf i) (slotOf i)))
 
 pub slots0-length : (s : List ℕ) (q n : ℕ) → length (slots0 s q n) ≡ n
 unfolding slots0
-slots0-length s q n = length-tab n (λ f. octetAt s (slot q f 0))
+slots0-length s q n = length-tab n (λ f. octetAt s (slotAt q f 0))
 
 pub payload-length : (s : List ℕ) (q g : ℕ) → length (payloadOf s q g) ≡ 496 * g
 payload-length s q g = slots-length s q (16 * g) ∙ omega arith
@@ -45,26 +47,13 @@ payload-length s q g = slots-length s q (16 * g) ∙ omega arith
 pub slot0-length : (s : List ℕ) (q g : ℕ) → length (slot0Of s q g) ≡ 16 * g
 slot0-length s q g = slots0-length s q (16 * g)
 
--- The loss, in the paper's words
+-- The loss, in the words of KIT §5
 
 -- the word of the even frame 2i isn't 0011011
-pub wrong-word : (s : List ℕ) (q i : ℕ) → wrong s q i ≡ true ↔ (field s (frame q (2 * i) + 1) 7 ≡ 27 → ⊥)
+pub wrong-word : (s : List ℕ) (q i : ℕ) → wrong s q i ≡ true ↔ (field s (frameAt q (2 * i) + 1) 7 ≡ 27 → ⊥)
 unfolding wrong
 wrong-word s q i =
-    (λ e. eqb-false _ _ (not-true (wordAt s (frame q (2 * i))) e), λ h. ap not (ne-eqb (field s (frame q (2 * i) + 1) 7) 27 h))
-
--- "the words of f-4, f-2 and f (f at least 4) are all wrong", f = 2i
-pub record ThreeWrong (s : List ℕ) (q i : ℕ) : Type 0 where
-  pub third : 4 ≤ 2 * i
-  pub one : wrong s q (i - 2) ≡ true
-  pub two : wrong s q (i - 1) ≡ true
-  pub three : wrong s q i ≡ true
-
--- "the first even frame f, among the frames of these M multiframes"
-pub record Loss (s : List ℕ) (q m i : ℕ) : Type 0 where
-  pub here : ThreeWrong s q i
-  pub among : 2 * i < 16 * m
-  pub before : (j : ℕ) → j < i → ThreeWrong s q j → ⊥
+    (λ e. eqb-false _ _ (not-true (wordAt s (frameAt q (2 * i))) e), λ h. ap not (ne-eqb (field s (frameAt q (2 * i) + 1) 7) 27 h))
 
 module _ (s : List ℕ) (q : ℕ) where
   pub three-holds : (i : ℕ) → threeWrong s q i ≡ true ↔ ThreeWrong s q i

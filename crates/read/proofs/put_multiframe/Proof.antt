@@ -1,13 +1,13 @@
--- `multiframe` meets its contract: at the head of the loop the frames before f are written.
+-- `put_multiframe` meets its contract: at the head of the loop the frames before f are written.
 use Prim.Native.Nat.{_+_, _≤_, _*_, _-_}
 use mathlib.Core.Path.{_≡_, refl, sym, _∙_}
 use native.Mathlib.Omega.{arith}
 use lib.ListN.{length, take}
-use Rattle.line.specs.PartLaws.{part-length}
+use Rattle.base.proofs.PartLaws.{part-length}
 use Rattle.read.specs.Reading.{slots}
 use Rattle.read.proofs.Slots.{slots-none, part-more, slots-full}
-use Rattle.read.proofs.multiframe.Statement.{statement}
-use Rattle.read.proofs.multiframe.Tie as tie
+use Rattle.read.proofs.put_multiframe.Statement.{statement}
+use Rattle.read.proofs.put_multiframe.Tie as tie
 
 abbrev Inv-loop : tie.InvT-loop
 Inv-loop s q out₀ f₀ out f = (f ≤ 16) × (length out ≡ 496) × (take (31 * f) out ≡ slots s q f)
@@ -15,8 +15,8 @@ Inv-loop s q out₀ f₀ out f = (f ≤ 16) × (length out ≡ 496) × (take (31
 abbrev μ-loop : tie.MeasureT-loop
 μ-loop s q out₀ f₀ out f = 16 - f
 
-frame-requires : tie.Need-frame-requires Inv-loop μ-loop
-frame-requires c κs =
+put-frame-requires : tie.Need-put-frame-requires Inv-loop μ-loop
+put-frame-requires c κs =
     let l = c .before .before in
     let f = l .loop .f in (
       record { countable = l .before .before .before .pre .0 .countable; there = omega arith },
@@ -31,7 +31,7 @@ loop-again c =
     let f = l .loop .f in (
       omega arith,
       c .before .out .given .1 ∙ l .loop .inv .1,
-      part-more (a .s .now) (a .q) f 1 (31 * f) (31 * f + 31) (l .loop .out) (w .frame .last .1 .1 .0) refl refl (omega arith) (w .frame .ensures)
+      part-more (a .s .now) (a .q) f 1 (31 * f) (31 * f + 31) (l .loop .out) (w .put-frame .last .1 .1 .0) refl refl (omega arith) (w .put-frame .ensures)
           (31 * (f + 1)) (f + 1) (omega arith) refl (l .loop .inv .2),
     )
 
@@ -41,8 +41,8 @@ returns c =
     let a = l .before .before .before .args in
     slots-full (a .s .now) (l .loop .out) (a .q) (l .loop .f) 16 (omega arith) (omega arith) (l .loop .inv .2)
 
-pub multiframe-spec : {M : Type 1} → statement M
-multiframe-spec =
+pub put-multiframe-spec : {M : Type 1} → statement M
+put-multiframe-spec =
     tie.close
     (tie.spec Inv-loop μ-loop
     (λ c. (omega arith, omega arith, sym (slots-none (c .before .before .args .s .now) (c .before .before .args .q))))
@@ -53,7 +53,7 @@ multiframe-spec =
     (omega arith)
     (omega arith)
     (omega arith)
-    frame-requires
+    put-frame-requires
     (omega arith)
     (omega arith)
     loop-again

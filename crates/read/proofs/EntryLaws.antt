@@ -1,0 +1,181 @@
+-- The laws of the entry: its numbers, what an accepted call and a refused one give, and that two results are equal.
+use Prim.Native.Nat.{ℕ, zero, suc, _+_, _*_, _≤_, _<_}
+use mathlib.Core.Path.{_≡_, refl, sym, ap, subst, _∙_}
+use mathlib.Core.Bool.{Bool, true, false, _||_, or-true, true≢false}
+use mathlib.Core.List.{List}
+use mathlib.Core.Logic.{_⊎_, inl, inr, _↔_}
+use mathlib.Core.Option.{Option, none, some}
+use mathlib.Mathlib.Data.Bool.Basic.{or-eq-false-eq-eq-false-and-eq-false}
+use native.Mathlib.Omega.{arith}
+use borrow.Author.Tests.{lt-ltb, le-ltb, ltb-true, ltb-false}
+use lib.Dec.{eqb, ltb}
+use lib.ListN.{length}
+use Rattle.base.proofs.AnswerLaws.{accepted-so, accepted-single, Tells, first-tells}
+use Rattle.base.specs.Answer.{accepted}
+use Rattle.align.specs.Place.{found, numberOf, placeOf, startOf, Standing, firstStanding}
+use Rattle.align.specs.Stands.{Stands, StandsFirst}
+use Rattle.align.proofs.Laws.{first-stands, none-stands, first-within}
+use Rattle.read.specs.Entry.{GoodLength, refuse, reading, accept, refusals, placeIn, startIn, wholeIn, usedIn}
+use Rattle.read.specs.Entry.{refusal, Read}
+use Rattle.read.proofs.Laws.{used-le, whole-fits}
+use Rattle.read.specs.declared.Reading.{Reading}
+
+-- The numbers
+
+-- the search's answer by its number
+found-3 : (o : Option Standing) → eqb (numberOf (found o)) 3 ≡ true → o ≡ none
+found-3 (some w) e = absurd (true≢false (sym e))
+found-3 none e = refl
+
+found-0 : (o : Option Standing) → eqb (numberOf (found o)) 3 ≡ false → (w : Standing) × (o ≡ some w)
+found-0 (some w) e = (w, refl)
+found-0 none e = absurd (true≢false e)
+
+module _ (s : List ℕ) (a b : ℕ) where
+  -- an output is shorter than the call needs
+  abbrev pub shortOutput : Bool
+  shortOutput = ltb a (496 * usedIn s) || ltb b (16 * usedIn s)
+
+  tells : Tells (refusal s a b) (refusals s a b)
+  unfolding refusal
+  tells = first-tells (refusals s a b) refl
+
+  pub number-1 : refusal s a b ≡ 1 ↔ length s < 2048
+  unfolding refusal
+  number-1 = (λ e. ltb-true (length s) 2048 (rw e at tells), λ h. rw (lt-ltb (length s) 2048 h))
+
+  pub number-2 : refusal s a b ≡ 2 ↔ 8192 < length s
+  unfolding refusal
+  number-2 = (
+    λ e. ltb-true 8192 (length s) ((rw e at tells) .1),
+    λ h. rw (le-ltb (length s) 2048 (omega arith), lt-ltb 8192 (length s) h),
+  )
+
+  -- of an image of good length
+  module _ (good : GoodLength s) where
+    pub refused-3 : firstStanding s ≡ none → refusal s a b ≡ 3
+    unfolding refusal
+    refused-3 e = rw (le-ltb (length s) 2048 (good .long), le-ltb 8192 (length s) (good .short), e)
+
+    pub number-3 : refusal s a b ≡ 3 ↔ ((p k : ℕ) → Stands s p k → ⊥)
+    number-3 = (
+      λ e. none-stands s .0 (found-3 (firstStanding s) ((rw e at tells) .1 .1)),
+      λ h. refused-3 (none-stands s .1 h),
+    )
+
+    -- on which a place stands
+    module _ (w : Standing) (e : firstStanding s ≡ some w) where
+      pub refused-4 : shortOutput ≡ true → refusal s a b ≡ 4
+      unfolding refusal
+      refused-4 f = rw (le-ltb (length s) 2048 (good .long), le-ltb 8192 (length s) (good .short), e, f)
+
+      pub accepts : shortOutput ≡ false → refusal s a b ≡ 0
+      unfolding refusal
+      accepts f = rw (le-ltb (length s) 2048 (good .long), le-ltb 8192 (length s) (good .short), e, f)
+
+      pub number-4 : refusal s a b ≡ 4 ↔ (a < 496 * usedIn s) ⊎ (b < 16 * usedIn s)
+      number-4 = (
+        λ z. which (ltb a (496 * usedIn s)) refl ((rw z at tells) .1 .1 .1),
+        λ h. refused-4 (elim h [ inl l ↦ rw (lt-ltb a (496 * usedIn s) l) | inr l ↦ rw (lt-ltb b (16 * usedIn s) l) (or-true (ltb a (496 * usedIn s))) ]),
+      )
+        where
+          which : (t : Bool) → ltb a (496 * usedIn s) ≡ t → t || ltb b (16 * usedIn s) ≡ true
+              → (a < 496 * usedIn s) ⊎ (b < 16 * usedIn s)
+          which true p q = inl (ltb-true _ _ p)
+          which false p q = inr (ltb-true _ _ q)
+
+-- the place and the start are those of the first place that stands
+module _ (s : List ℕ) (w : Standing) (e : firstStanding s ≡ some w) where
+  pub place-is : w .place ≡ placeIn s
+  unfolding placeIn
+  place-is = sym (ap (λ o. placeOf (found o)) e)
+
+  pub start-is : w .place + 512 * w .k ≡ startIn s
+  unfolding startIn
+  start-is = sym (ap (λ o. startOf (found o)) e)
+
+-- what holds where the call is accepted
+pub record Ready (s : List ℕ) (a b : ℕ) : Type 0 where
+  pub good : GoodLength s
+  pub k : ℕ
+  pub first : StandsFirst s (placeIn s) k
+  pub start : startIn s ≡ placeIn s + 512 * k
+  pub whole : startIn s + 4096 * wholeIn s ≤ 8 * length s
+  pub used : usedIn s ≤ wholeIn s
+  pub payload : 496 * usedIn s ≤ a
+  pub slot0 : 16 * usedIn s ≤ b
+
+pub ready : (s : List ℕ) (a b : ℕ) → refusal s a b ≡ 0 → Ready s a b
+ready s a b e =
+    let t = rw e at (tells s a b) in
+    let w = found-0 (firstStanding s) (t .1 .1 .0) in
+    let f = or-eq-false-eq-eq-false-and-eq-false (ltb a (496 * usedIn s)) (ltb b (16 * usedIn s)) .0 (t .1 .1 .1 .0) in
+    let p = place-is s (w .0) (w .1) in
+    let q = start-is s (w .0) (w .1) in
+    let r = first-within s (w .0 .place) (w .0 .k) (w .1) in
+    record {
+      good = record { long = ltb-false (length s) 2048 (t .0); short = ltb-false 8192 (length s) (t .1 .0) };
+      k = w .0 .k;
+      first = rw (← p) (first-stands s (w .0 .place) (w .0 .k) .0 (w .1));
+      start = omega arith;
+      whole = whole-fits s (startIn s) (omega arith);
+      used = used-le s (startIn s) (wholeIn s);
+      payload = ltb-false a (496 * usedIn s) (f .0);
+      slot0 = ltb-false b (16 * usedIn s) (f .1);
+    }
+
+-- The results
+
+-- a refusal answers its number and zeros
+pub refused-as : (s payload slot0 : List ℕ) (n : ℕ) → refusal s (length payload) (length slot0) ≡ suc n
+    → Read s payload slot0 (refuse (suc n)) payload slot0
+unfolding reading
+refused-as s payload slot0 n e = record { its-answer = rw e; its-payload = refl; its-slot0 = refl }
+
+module _ (s payload slot0 : List ℕ) where
+  abbrev number : ℕ
+  number = refusal s (length payload) (length slot0)
+
+  pub read-number : (r : Reading) (p o : List ℕ) → Read s payload slot0 r p o → r .number ≡ number
+  unfolding reading accept
+  read-number r p o h = ap (λ (x : Reading). x .number) (h .its-answer) ∙ go number
+    where
+      go : (n : ℕ) → accepted n (accept s) (refuse n) .number ≡ n
+      go zero = refl
+      go (suc n) = refl
+
+  -- an accepted call
+  pub read-accepted : (r : Reading) (p o : List ℕ) → Read s payload slot0 r p o → r .number ≡ 0 → r ≡ accept s
+  unfolding reading
+  read-accepted r p o h z =
+      h .its-answer ∙ accepted-so number (accept s) (refuse number) (sym (read-number r p o h) ∙ z)
+
+  -- two results that the contract admits are equal
+  pub read-single : (r r' : Reading) (p p' o o' : List ℕ) → Read s payload slot0 r p o → Read s payload slot0 r' p' o'
+      → (r ≡ r') × (p ≡ p') × (o ≡ o')
+  read-single r r' p p' o o' h h' =
+      let e : r ≡ r' = h .its-answer ∙ sym (h' .its-answer) in (
+        e,
+        accepted-single _ _ _ _ _ _ (ap (λ (x : Reading). x .number) e) (h .its-payload) (h' .its-payload),
+        accepted-single _ _ _ _ _ _ (ap (λ (x : Reading). x .number) e) (h .its-slot0) (h' .its-slot0),
+      )
+
+  -- a refusal is zeros beside its number, and both outputs as they were
+  pub read-refused : (r : Reading) (p o : List ℕ) (n : ℕ) → Read s payload slot0 r p o → r .number ≡ suc n
+      → (r ≡ refuse (suc n)) × (p ≡ payload) × (o ≡ slot0)
+  read-refused r p o n h e =
+      read-single r (refuse (suc n)) p payload o slot0 h (refused-as s payload slot0 n (sym (read-number r p o h) ∙ e))
+
+  -- the place that is answered is the first that stands, and the start is s = p + 512k with its least k
+  pub read-place : (r : Reading) (p o : List ℕ) → Read s payload slot0 r p o → r .number ≡ 0
+      → (k : ℕ) × StandsFirst s (r .place) k × (r .start ≡ r .place + 512 * k)
+  unfolding accept
+  read-place r p o h e =
+      let d = ready s (length payload) (length slot0) (sym (read-number r p o h) ∙ e) in
+      let a = read-accepted r p o h e in
+      let at : r .place ≡ placeIn s = ap (λ (x : Reading). x .place) a in
+      let from : r .start ≡ startIn s = ap (λ (x : Reading). x .start) a in (
+        d .k,
+        subst (λ x. StandsFirst s x (d .k)) (sym at) (d .first),
+        from ∙ d .start ∙ ap (λ x. x + 512 * d .k) (sym at),
+      )
