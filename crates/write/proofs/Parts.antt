@@ -10,17 +10,18 @@ use borrow.Rule.Slice.PartMut.{putMid, drop-put}
 use lib.Dec.{eqb}
 use lib.ListN.{length, getD, take, drop, set, length-drop, drop-of-length-le, take-append-drop, List·getD-eq-default}
 use lib.Seq.{getD-take, getD-drop, drop-drop, take-at, drop-at}
-use Rattle.line.specs.Tab.{tab}
-use Rattle.line.specs.TabLaws.{length-tab, tab-agree, tab-split, tab-fill, fill-more}
-use Rattle.line.specs.PartLaws.{take-put-more, part-length}
+use Rattle.base.specs.Tab.{tab}
+use Rattle.base.proofs.TabLaws.{length-tab, tab-agree, tab-split, tab-fill, fill-more}
+use Rattle.base.proofs.PartLaws.{take-put-more, part-length}
 use Rattle.e1.specs.Block.{blockCheck}
 use Rattle.e1.specs.Payload.{multiframes}
-use Rattle.e1.specs.Laws.{accepted-not}
-use Rattle.write.specs.Writing.{slot0, octet, block, carries, written}
-use Rattle.write.specs.Entry.{refusal, Wrote}
-use Rattle.write.specs.Inputs.{Inputs, limit-range}
-use Rattle.write.specs.Laws.{length-block, length-written}
-use Rattle.write.specs.Joins.{same-carries, same-written, later-carries, later-written}
+use Rattle.base.proofs.AnswerLaws.{accepted-so, accepted-not}
+use Rattle.write.specs.Writing.{slot0, octetIn, block, carries, written}
+use Rattle.write.specs.Entry.{refusal, refuse, writing, Wrote}
+use Rattle.write.specs.declared.Written.{Written}
+use Rattle.write.specs.Inputs.{Inputs}
+use Rattle.write.proofs.Laws.{limit-range, length-block, length-written}
+use Rattle.write.proofs.Joins.{same-carries, same-written, later-carries, later-written}
 
 -- the part from a to e that is lent
 abbrev pub part : ℕ → ℕ → List ℕ → List ℕ
@@ -39,7 +40,7 @@ frame-more x p d j h l e =
 
 -- octet i of block b
 abbrev pub blockOctet : List ℕ → List ℕ → ℕ → ℕ → ℕ → ℕ
-blockOctet p o k b i = octet p o k (8 * b + i / 32) (i % 32)
+blockOctet p o k b i = octetIn p o k (8 * b + i / 32) (i % 32)
 
 module _ (p o : List ℕ) (k b : ℕ) where
   -- one frame more of the block
@@ -61,12 +62,13 @@ module _ (p o : List ℕ) (k b : ℕ) where
       let e₁ : (32 * i + j) / 32 ≡ i = omega arith in
       let e₂ : (32 * i + j) % 32 ≡ j = omega arith in
       ap₂ (cond (eqb j 0)) ex (getD-take (g + 31 - g) (drop g p) (j - 1) 0 (omega arith) ∙ getD-drop g p (j - 1) 0)
-      ∙ sym (ap₂ (λ u v. octet p o k (8 * b + u) v) e₁ e₂)) in
+      ∙ sym (ap₂ (λ u v. octetIn p o k (8 * b + u) v) e₁ e₂)) in
       ap (λ m. take m (putMid (32 * i) (32 * i + 32 - 32 * i) xs ys)) n
       ∙ take-put-more (32 * i) (32 * i + 32) xs ys (tab (32 * i) t) (omega arith) hx l q
       ∙ ap (λ z. tab (32 * i) t ++ z) e ∙ sym (tab-split (32 * i) 32 t) ∙ ap (λ m. tab m t) (sym n)
 
-  pub block-done : (i : ℕ) (xs : List ℕ) → i ≡ 8 → length xs ≡ 256 → take (32 * i) xs ≡ tab (32 * i) (blockOctet p o k b) → xs ≡ block p o k b
+  pub block-done : (i : ℕ) (xs : List ℕ) → i ≡ 8 → length xs ≡ 256
+      → take (32 * i) xs ≡ tab (32 * i) (blockOctet p o k b) → xs ≡ block p o k b
   unfolding block
   block-done i xs e l q =
       let n : 32 * i ≡ 256 = omega arith in
@@ -98,7 +100,8 @@ payloadPart m p = part (496 * m) (496 * m + 496) p
 abbrev pub overheadPart : ℕ → List ℕ → List ℕ
 overheadPart m o = part (8 * m) (8 * m + 8) o
 
-pub part-inputs : (p o : List ℕ) (c n m k : ℕ) → Inputs p o c n → m < n → k < 16 → Inputs (payloadPart m p) (overheadPart m o) k 1
+pub part-inputs : (p o : List ℕ) (c n m k : ℕ) → Inputs p o c n → m < n → k < 16
+    → Inputs (payloadPart m p) (overheadPart m o) k 1
 part-inputs p o c n m k g h hk =
     record {
       payload-length = part-length (496 * m) (496 * m + 496) p (omega arith) ∙ omega arith;
@@ -148,7 +151,8 @@ module _ (p o : List ℕ) (c m : ℕ) where
       let n : 512 * (m + 1) ≡ 512 * m + 512 = omega arith in
       let l : length ys ≡ 512 * m + 512 - 512 * m = ap length ey ∙ length-written (payloadPart m p) (overheadPart m o) k 2 ∙ omega arith in
       let z = putMid (512 * m) (512 * m + 512 - 512 * m) xs ys in (
-        ap (λ x. take x z) n ∙ take-put-more (512 * m) (512 * m + 512) xs ys (written p o c (2 * m)) (omega arith) hx l q
+        ap (λ x. take x z) n
+            ∙ take-put-more (512 * m) (512 * m + 512) xs ys (written p o c (2 * m)) (omega arith) hx l q
             ∙ ap (λ x. written p o c (2 * m) ++ x) (ey ∙ ap (λ x. written (payloadPart m p) (overheadPart m o) x 2) ek) ∙ next-written,
         ap (λ x. drop x z) n ∙ drop-put (512 * m) (512 * m + 512) xs ys (omega arith) hx l
             ∙ sym (drop-drop 512 (512 * m) xs) ∙ ap (drop 512) r ∙ drop-drop 512 (512 * m) xs₀ ∙ ap (λ x. drop x xs₀) (sym n),
@@ -168,14 +172,23 @@ module _ (p o : List ℕ) (c : ℕ) (out : List ℕ) (m : ℕ) (e : m ≡ refusa
   abbrev n : ℕ
   n = multiframes p
 
-  pub refused : (m ≡ 0 → ⊥) → Wrote p o c out (record { number = m; check = 0 }) out
+  pub refused : (m ≡ 0 → ⊥) → Wrote p o c out (refuse m) out
+  unfolding writing
   refused z =
       record {
-        its-number = e;
-        its-check = sym (accepted-not m (carries p o c (2 * n)) 0 z);
+        its-answer = ap refuse e ∙ sym (accepted-not (refusal p o c (length out)) _ _ (λ y. z (e ∙ y)));
         its-out = sym (accepted-not m (written p o c (2 * n) ++ drop (512 * n) out) out z);
       }
 
-  pub taken : (k : ℕ) (out' : List ℕ) → m ≡ 0 → k ≡ carries p o c (2 * n) → out' ≡ written p o c (2 * n) ++ drop (512 * n) out
+  pub taken : (k : ℕ) (out' : List ℕ) → m ≡ 0 → k ≡ carries p o c (2 * n)
+      → out' ≡ written p o c (2 * n) ++ drop (512 * n) out
       → Wrote p o c out (record { number = m; check = k }) out'
-  taken k out' z ek eo = record { its-number = e; its-check = rw z ek; its-out = rw z eo }
+  unfolding writing
+  taken k out' z ek eo =
+      record {
+        its-answer = ap₂ made z ek ∙ sym (accepted-so (refusal p o c (length out)) _ _ (sym e ∙ z));
+        its-out = eo ∙ sym (accepted-so m _ out z);
+      }
+    where
+      made : ℕ → ℕ → Written
+      made number check = record { number = number; check = check }

@@ -1,12 +1,13 @@
--- What `write` answers, and what it leaves in the output.
+-- What `write` answers, and what it leaves in the output (KIT §6).
 use Prim.Native.Nat.{ℕ, _*_, _%_}
 use mathlib.Core.Bool.{Bool, _&&_, not}
-use mathlib.Core.List.{List, _++_}
+use mathlib.Core.List.{List, [], _∷_, _++_}
 use mathlib.Core.Path.{_≡_}
 use lib.Dec.{eqb, ltb}
 use lib.ListN.{length, getD, drop}
-use Rattle.line.specs.Tab.{all}
-use Rattle.e1.specs.Answer.{if_then_else_, accepted}
+use Rattle.base.specs.Tab.{all}
+use Rattle.base.specs.Choice.{if_then_else_}
+use Rattle.base.specs.Answer.{accepted, Refusal, _when_, firstOf}
 use Rattle.e1.specs.Payload.{multiframes, sized}
 use Rattle.write.specs.Writing.{carries, written}
 use Rattle.write.specs.declared.Written.{Written}
@@ -19,17 +20,29 @@ overheadLimit h = if ltb (h % 8) 6 then 64 else 128
 unfoldable pub overheadFits : List ℕ → ℕ → Bool
 overheadFits o n = eqb (length o) (8 * n) && all (length o) (λ h. ltb (getD o h 0) (overheadLimit h))
 
--- the number, 0 where the call is accepted; m is how many octets the output has
+-- m is how many octets the output has
+abbrev pub refusals : List ℕ → List ℕ → ℕ → ℕ → List Refusal
+refusals p o c m =
+    5 when not (sized (length p))
+    ∷ 6 when not (overheadFits o (multiframes p))
+    ∷ 7 when ltb 15 c
+    ∷ 4 when ltb m (512 * multiframes p)
+    ∷ []
+
 unfoldable pub refusal : List ℕ → List ℕ → ℕ → ℕ → ℕ
-refusal p o c m =
-    if not (sized (length p)) then 5 else
-    if not (overheadFits o (multiframes p)) then 6 else
-    if ltb 15 c then 7 else
-    if ltb m (512 * multiframes p) then 4 else
-    0
+refusal p o c m = firstOf (refusals p o c m)
+
+-- what an accepted call answers, the check of the last block, and what a refused one does
+abbrev pub accept : ℕ → Written
+accept check = record { number = 0; check = check }
+
+abbrev pub refuse : ℕ → Written
+refuse number = record { number = number; check = 0 }
+
+unfoldable pub writing : List ℕ → List ℕ → ℕ → ℕ → Written
+writing p o c m = accepted (refusal p o c m) (accept (carries p o c (2 * multiframes p))) (refuse (refusal p o c m))
 
 -- what `write` returns, and leaves in the output
 pub record Wrote (p o : List ℕ) (c : ℕ) (out : List ℕ) (r : Written) (out' : List ℕ) : Type 0 where
-  pub its-number : r .number ≡ refusal p o c (length out)
-  pub its-check : r .check ≡ accepted (r .number) (carries p o c (2 * multiframes p)) 0
+  pub its-answer : r ≡ writing p o c (length out)
   pub its-out : out' ≡ accepted (r .number) (written p o c (2 * multiframes p) ++ drop (512 * multiframes p) out) out

@@ -5,7 +5,7 @@ ghost use mathlib.Core.List.{_++_};
 ghost use Prim.Native.Nat.{_-_, _*_, _^_, _<_, _≤_};
 ghost use lib.Dec.{eqb};
 ghost use lib.ListN.{length, getD, drop};
-ghost use Rattle.line.specs.Tab.{tab};
+ghost use Rattle.base.specs.Tab.{tab};
 ghost use Rattle.e1.specs.Block.{blockCheck};
 ghost use Rattle.write.specs.Writing.{bit1, slot0, block, carries, written};
 ghost use Rattle.write.specs.Entry.{overheadLimit, overheadFits, refusal, Wrote};

@@ -1,9 +1,10 @@
 -- `bit_1` meets its contract, in frames 1 to 11 and in 13 and 15.
+use mathlib.Core.Path.{refl}
 use borrow.Author.Needs.{needs}
 use borrow.Author.Tests.{lt-ltb, le-ltb}
 use Prim.Native.Nat.{_/_, _%_}
 use native.Mathlib.Omega.{arith}
-use Rattle.write.specs.Laws.{signal-lt}
+use Rattle.e1.proofs.Laws.{signal-lt}
 use Rattle.write.proofs.bit_1.Statement.{statement}
 use Rattle.write.proofs.bit_1.Tie as tie
 
@@ -12,5 +13,5 @@ bit-1-spec =
     tie.close
     (tie.spec
     (search needs)
-    (λ c. (simp (lt-ltb _ _ (c .if1 .taken)), signal-lt (c .before .args .f / 2 % 8) (omega arith)))
-    (λ c. (simp (le-ltb _ _ (c .if1 .left)), omega arith)))
+    (λ c. (simp (lt-ltb _ _ (c .if1 .taken)) refl, signal-lt (c .before .args .f / 2 % 8) (omega arith)))
+    (λ c. (simp (le-ltb _ _ (c .if1 .left)) refl, omega arith)))

@@ -7,8 +7,8 @@ use borrow.Author.Needs.{needs}
 use borrow.Author.Tests.{eq-eqb, ne-eqb, lt-ltb, le-ltb}
 use lib.Dec.{ltb}
 use lib.ListN.{length, getD}
-use Rattle.line.specs.Tab.{all}
-use Rattle.line.specs.TabLaws.{all-more, all-fails}
+use Rattle.base.specs.Tab.{all}
+use Rattle.base.proofs.TabLaws.{all-more, all-fails}
 use Rattle.write.specs.Entry.{overheadLimit, overheadFits}
 use Rattle.write.proofs.overhead_fits.Statement.{statement}
 use Rattle.write.proofs.overhead_fits.Tie as tie

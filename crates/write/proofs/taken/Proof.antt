@@ -3,7 +3,7 @@ use Prim.Native.Nat.{_-_, _≤_}
 use mathlib.Core.Path.{_≡_, refl}
 use native.Mathlib.Omega.{arith}
 use lib.ListN.{length, take, length-set}
-use Rattle.line.specs.PartLaws.{copy-more, copy-done}
+use Rattle.base.proofs.PartLaws.{copy-more, copy-done}
 use Rattle.write.proofs.taken.Statement.{statement}
 use Rattle.write.proofs.taken.Tie as tie
 

@@ -3,7 +3,7 @@ use borrow.Author.Needs.{needs}
 use mathlib.Core.Path.{sym, _∙_}
 use native.Mathlib.Omega.{arith}
 use lib.ListN.{length}
-use Rattle.write.specs.Calls.{accepted-call}
+use Rattle.write.proofs.Calls.{accepted-call}
 use Rattle.write.proofs.Parts.{refused, taken}
 use Rattle.write.proofs.write.Statement.{statement}
 use Rattle.write.proofs.write.Tie as tie
@@ -37,4 +37,5 @@ returns-2 c =
     (w .result) (w .last .1 .1 .1 .1 .0) (e .if1 .left) (w .ensures .1) (w .ensures .0)
 
 pub write-spec : {M : Type 1} → statement M
-write-spec = tie.close (tie.spec (search needs) returns cast-write-all write-all-requires (search needs) (search needs) returns-2)
+write-spec =
+    tie.close (tie.spec (search needs) returns cast-write-all write-all-requires (search needs) (search needs) returns-2)

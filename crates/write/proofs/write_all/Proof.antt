@@ -1,12 +1,12 @@
--- `write_all` meets its contract: at the head of the loop the multiframes before m are written, c is the check of the last of their blocks, and
--- the rest of the output is as it was.
+-- `write_all` meets its contract: at the head of the loop the multiframes before m are written, c is the check of the
+-- last of their blocks, and the rest of the output is as it was.
 use Prim.Native.Nat.{_+_, _-_, _*_, _≤_, _<_}
 use mathlib.Core.Path.{_≡_, refl, _∙_}
 use native.Mathlib.Omega.{arith}
 use lib.ListN.{length, take, drop}
-use Rattle.line.specs.PartLaws.{part-length}
+use Rattle.base.proofs.PartLaws.{part-length}
 use Rattle.write.specs.Writing.{carries, written}
-use Rattle.write.specs.Laws.{carries-lt}
+use Rattle.write.proofs.Laws.{carries-lt}
 use Rattle.write.proofs.Parts.{part-inputs, all-more, all-done}
 use Rattle.write.proofs.write_all.Statement.{statement}
 use Rattle.write.proofs.write_all.Tie as tie
@@ -29,10 +29,10 @@ write-multiframe-requires c κs =
     let s = l .before .before .before .before in
     let a = s .args in
     let m = l .loop .m in
-    let lt : l .loop .c < 16 = rw (l .loop .inv .2) (carries-lt (a .payload .now) (a .overhead .now) (a .k) (2 * m) (s .pre .0 .four-bits)) in (
-      part-inputs (a .payload .now) (a .overhead .now) (a .k) (a .n) m (l .loop .c) (s .pre .0) (omega arith) lt,
-      part-length (512 * m) (512 * m + 512) (l .loop .out) (omega arith) ∙ omega arith,
-    )
+    let lt : l .loop .c < 16 = rw (l .loop .inv .2) (carries-lt (a .payload .now) (a .overhead .now) (a .k) (2 * m) (s .pre .0 .four-bits)) in
+    let part : length (take (512 * m + 512 - 512 * m) (drop (512 * m) (l .loop .out))) ≡ 512
+    = part-length (512 * m) (512 * m + 512) (l .loop .out) (omega arith) ∙ omega arith in
+    (part-inputs (a .payload .now) (a .overhead .now) (a .k) (a .n) m (l .loop .c) (s .pre .0) (omega arith) lt, part)
 
 loop-again : tie.Need-loop-again Inv-loop μ-loop
 loop-again c =

@@ -1,18 +1,18 @@
 -- `write_block` meets its contract: at the head of the loop the frames before i are written.
 use Prim.Native.Nat.{_+_, _-_, _*_, _/_, _≤_}
-use mathlib.Core.Path.{_≡_, refl, _∙_}
+use mathlib.Core.Path.{_≡_, refl}
 use native.Mathlib.Omega.{arith}
 use borrow.Author.Needs.{needs}
 use lib.ListN.{length, take}
-use Rattle.line.specs.Tab.{tab, tabFrom}
-use Rattle.line.specs.PartLaws.{part-length}
-use Rattle.write.specs.Laws.{overhead-lt}
+use Rattle.base.specs.Tab.{tab, tabFrom}
+use Rattle.write.proofs.Laws.{overhead-lt}
 use Rattle.write.proofs.Parts.{blockOctet, block-more, block-done}
 use Rattle.write.proofs.write_block.Statement.{statement}
 use Rattle.write.proofs.write_block.Tie as tie
 
 abbrev Inv-loop : tie.InvT-loop
-Inv-loop payload overhead k b out₀ i₀ out i = (i ≤ 8) × (length out ≡ 256) × (take (32 * i) out ≡ tab (32 * i) (blockOctet payload overhead k b))
+Inv-loop payload overhead k b out₀ i₀ out i =
+    (i ≤ 8) × (length out ≡ 256) × (take (32 * i) out ≡ tab (32 * i) (blockOctet payload overhead k b))
 
 abbrev μ-loop : tie.MeasureT-loop
 μ-loop payload overhead k b out₀ i₀ out i = 8 - i
@@ -22,17 +22,8 @@ unfolding tabFrom
 loop-holds c = (omega arith, omega arith, refl)
 
 slot-0-requires : tie.Need-slot-0-requires Inv-loop μ-loop
-slot-0-requires c κs = let s = c .before .before .before .before .before .before in overhead-lt (s .pre .0) ((8 * s .args .b + c .before .before .loop .i) / 2)
-
-write-frame-requires : tie.Need-write-frame-requires Inv-loop μ-loop
-write-frame-requires c κs =
-    let l = c .before .before .before .before .before in
-    let a = l .before .before .before .before .args in
-    let i = l .loop .i in
-    let g = 31 * (8 * a .b + i) in (
-      part-length g (g + 31) (a .payload .now) (omega arith) ∙ omega arith,
-      part-length (32 * i) (32 * i + 32) (l .loop .out) (omega arith) ∙ omega arith,
-    )
+slot-0-requires c κs =
+    let s = c .before .before .before .before .before .before in overhead-lt (s .pre .0) ((8 * s .args .b + c .before .before .loop .i) / 2)
 
 loop-again : tie.Need-loop-again Inv-loop μ-loop
 loop-again c =
@@ -61,4 +52,4 @@ write-block-spec =
     loop-holds (omega arith) (omega arith) (omega arith) slot-0-requires (omega arith) (omega arith)
     (omega arith) (omega arith) (omega arith) (omega arith)
     (omega arith) (omega arith) (omega arith) (omega arith)
-    write-frame-requires (omega arith) (omega arith) loop-again (search needs) (omega arith) returns)
+    (λ c κs. (search needs, search needs)) (omega arith) (omega arith) loop-again (search needs) (omega arith) returns)

@@ -4,14 +4,15 @@ use mathlib.Core.Path.{_≡_, refl, ap, _∙_}
 use native.Mathlib.Omega.{arith}
 use borrow.Author.Needs.{needs}
 use lib.ListN.{length, take, length-set}
-use Rattle.line.specs.Tab.{tab, tabFrom}
-use Rattle.line.specs.TabLaws.{fill-more, tab-fill}
+use Rattle.base.specs.Tab.{tab, tabFrom}
+use Rattle.base.proofs.TabLaws.{fill-more, tab-fill}
 use Rattle.write.proofs.Parts.{frameOctet, frame-more}
 use Rattle.write.proofs.write_frame.Statement.{statement}
 use Rattle.write.proofs.write_frame.Tie as tie
 
 abbrev Inv-loop : tie.InvT-loop
-Inv-loop slot payload out₀ octets j₀ out j = (1 ≤ j) × (j ≤ 32) × (length out ≡ 32) × (take j out ≡ tab j (frameOctet slot octets))
+Inv-loop slot payload out₀ octets j₀ out j =
+    (1 ≤ j) × (j ≤ 32) × (length out ≡ 32) × (take j out ≡ tab j (frameOctet slot octets))
 
 abbrev μ-loop : tie.MeasureT-loop
 μ-loop slot payload out₀ octets j₀ out j = 32 - j

@@ -12,7 +12,12 @@ write-block-requires-2 : tie.Need-write-block-requires-2
 write-block-requires-2 c κs =
     let w = c .before .before .before in
     let g = w .before .before .before .before .before .pre .0 in (
-      record { payload-length = g .payload-length; overhead-length = g .overhead-length; limited = g .limited; four-bits = w .write-block .ensures .1 .1 },
+      record {
+        payload-length = g .payload-length;
+        overhead-length = g .overhead-length;
+        limited = g .limited;
+        four-bits = omega arith;
+      },
       omega arith,
       search needs,
     )

@@ -1,4 +1,5 @@
--- Two calls in a row make one line: what is written of n multiframes, and of m more with the check handed on, is what is written of all.
+-- Two calls in a row make one line: what is written of n multiframes, and of m more with the check handed on, is what
+-- is written of all.
 use Prim.Native.Nat.{ℕ, zero, suc, _+_, _*_, _/_, _%_, _<_}
 use mathlib.Core.Path.{_≡_, refl, sym, ap, ap₂, _∙_}
 use mathlib.Core.Bool.{cond}
@@ -8,10 +9,10 @@ use native.Mathlib.Omega.{arith}
 use lib.Dec.{eqb}
 use lib.ListN.{length, getD, drop, List·getD-append}
 use lib.Seq.{getD-drop, drop-at}
-use Rattle.line.specs.TabLaws.{tab-agree}
+use Rattle.base.proofs.TabLaws.{tab-agree}
 use Rattle.e1.specs.Block.{blockCheck}
 use Rattle.e1.specs.Payload.{indexOf}
-use Rattle.write.specs.Writing.{slot0, octet, block, carries, written}
+use Rattle.write.specs.Writing.{slot0, octetIn, block, carries, written}
 
 -- what is written of b blocks is of the first 248b octets of the payload and the first 4b of the overhead
 module _ (p p' o o' : List ℕ) (c : ℕ) where
@@ -66,7 +67,7 @@ module _ (p o : List ℕ) (n : ℕ) where
       mod8 : (y : ℕ) → (8 * n + y) % 8 ≡ y % 8
       mod8 y = omega arith
 
-  later-octet : (k f j : ℕ) → octet p o k (16 * n + f) j ≡ octet laterPayload laterOverhead k f j
+  later-octet : (k f j : ℕ) → octetIn p o k (16 * n + f) j ≡ octetIn laterPayload laterOverhead k f j
   later-octet k f j =
       let e : (16 * n + f) / 2 ≡ 8 * n + f / 2 = omega arith in
       let e' : indexOf (16 * n + f) j ≡ 496 * n + indexOf f j = omega arith in
@@ -80,10 +81,11 @@ module _ (p o : List ℕ) (n : ℕ) where
       tab-agree 256 _ _
       (λ i l.
       let e : 8 * (2 * n + b) + i / 32 ≡ 16 * n + (8 * b + i / 32) = omega arith in
-      ap (λ f. octet p o k f (i % 32)) e ∙ later-octet k (8 * b + i / 32) (i % 32))
+      ap (λ f. octetIn p o k f (i % 32)) e ∙ later-octet k (8 * b + i / 32) (i % 32))
 
   module _ (c : ℕ) where
-    pub later-carries : (b : ℕ) → carries p o c (2 * n + b) ≡ carries laterPayload laterOverhead (carries p o c (2 * n)) b
+    pub later-carries : (b : ℕ)
+        → carries p o c (2 * n + b) ≡ carries laterPayload laterOverhead (carries p o c (2 * n)) b
     unfolding carries
     later-carries zero = ap (carries p o c) (add-zero (2 * n))
     later-carries (suc b) =
@@ -91,7 +93,8 @@ module _ (p o : List ℕ) (n : ℕ) where
         ap (carries p o c) (add-suc (2 * n) b)
         ∙ ap (λ l. blockCheck l 0) (ap (λ k. block p o k (2 * n + b)) (later-carries b) ∙ later-block k' b)
 
-    pub later-written : (b : ℕ) → written p o c (2 * n + b) ≡ written p o c (2 * n) ++ written laterPayload laterOverhead (carries p o c (2 * n)) b
+    pub later-written : (b : ℕ)
+        → written p o c (2 * n + b) ≡ written p o c (2 * n) ++ written laterPayload laterOverhead (carries p o c (2 * n)) b
     unfolding written
     later-written zero = ap (written p o c) (add-zero (2 * n)) ∙ sym (append-nil (written p o c (2 * n)))
     later-written (suc b) =

@@ -1,5 +1,6 @@
--- What stands where in the line that is written: each payload octet, each overhead bit, the word, the signal and the checks. Every block
--- but the last agrees with the check that is carried after it, and the check of the last is the one that is answered.
+-- What stands where in the line that is written: each payload octet, each overhead bit, the word, the signal and the
+-- checks. Every block but the last agrees with the check that is carried after it, and the check of the last is the one
+-- that is answered.
 use Prim.Native.Nat.{ℕ, zero, suc, _+_, _-_, _*_, _/_, _%_, _^_, _≤_, _<_}
 use mathlib.Core.Path.{_≡_, refl, sym, ap, ap₂, _∙_}
 use mathlib.Core.Bool.{Bool, true, false, cond}
@@ -7,23 +8,34 @@ use mathlib.Core.List.{List, _++_}
 use native.Mathlib.Decide.{decLt}
 use native.Mathlib.Nat.{not-suc-le-zero, mod-lt}
 use native.Mathlib.Omega.{arith}
-use borrow.Author.Tests.{eq-eqb, ne-eqb, lt-ltb, le-ltb, ltb-true, eqb-true}
+use borrow.Author.Tests.{eq-eqb, ne-eqb, lt-ltb, le-ltb}
 use lib.Dec.{eqb, ltb, lit<, lit≤}
-use lib.ListN.{length, getD, length-append, List·getD-append, List·getD-eq-default}
-use lib.Seq.{getD-append-add, ext-getD}
-use Rattle.line.specs.Tab.{tab, all}
-use Rattle.line.specs.TabLaws.{length-tab, getD-tab, tab-agree, all-at}
+use lib.ListN.{length, getD, length-append, List·getD-append}
+use lib.Seq.{getD-append-add}
+use Rattle.base.specs.Tab.{tab}
+use Rattle.base.proofs.TabLaws.{tab-of, length-tab, getD-tab}
 use Rattle.line.specs.Bit.{bitAt, field, octetAt}
-use Rattle.line.specs.BitLaws.{bit-in, field-in}
+use Rattle.line.proofs.BitLaws.{bit-in, field-in}
+use Rattle.line.specs.Spelt.{digit}
+use Rattle.line.proofs.SpeltLaws.{spelt-agree, spelt-digits}
 use Rattle.crc.specs.Remainder.{check}
-use Rattle.crc.specs.Laws.{check-lt}
-use Rattle.e1.specs.Answer.{if_then_else_}
-use Rattle.e1.specs.Frame.{frame, slot, wordAt, signal, evenSlot0, oddSlot0}
-use Rattle.e1.specs.Block.{isCheckPlace, blockBit, blockBits, blockCheck, carried, agrees}
+use Rattle.base.specs.Choice.{if_then_else_}
+use Rattle.e1.specs.Frame.{frameAt, slotAt, wordAt, signal, evenSlot0, oddSlot0}
+use Rattle.e1.specs.Block.{blockCheck, carried, agrees}
 use Rattle.e1.specs.Payload.{indexOf, frameOf, slotOf}
-use Rattle.e1.specs.Laws.{index-of, block-bit-lt, block-length, block-at}
-use Rattle.write.specs.Writing.{checkBit, bit1, slot0, octet, block, carries, written}
-use Rattle.write.specs.Inputs.{Inputs, limit-range}
+use Rattle.e1.proofs.Laws.{index-of, block-check-lt, signal-lt}
+use Rattle.crc.proofs.StripedLaws.{striped-agree}
+use Rattle.write.specs.Entry.{overheadLimit}
+use Rattle.write.specs.Writing.{overheadOf, checkBit, bit1, slot0, octetIn, block, carries, written}
+use Rattle.write.specs.Inputs.{Inputs}
+
+-- inputs
+pub limit-range : (h : ℕ) → (0 < overheadLimit h) × (overheadLimit h ≤ 128)
+limit-range h = either (ltb (h % 8) 6)
+  where
+    either : (t : Bool) → (0 < (if t then 64 else 128)) × ((if t then 64 else 128) ≤ 128)
+    either true = (lit< tt, lit≤ tt)
+    either false = (lit< tt, lit≤ tt)
 
 -- octets
 pub length-block : (p o : List ℕ) (k b : ℕ) → length (block p o k b) ≡ 256
@@ -49,12 +61,13 @@ block-octet-at p o c (suc n) b i hb hi =
       | no h ↦
           let e : b ≡ n = omega arith in
           let e' : 256 * b + i ≡ length w + i = omega arith in
-          ap (λ m. getD (w ++ last) m 0) e' ∙ getD-append-add w last i 0 ∙ ap (λ x. getD (block p o (carries p o c x) x) i 0) (sym e)
+          ap (λ m. getD (w ++ last) m 0) e' ∙ getD-append-add w last i 0
+          ∙ ap (λ x. getD (block p o (carries p o c x) x) i 0) (sym e)
     ]
 
 -- octet j of frame f stands at 32f + j
 pub octet-at : (p o : List ℕ) (c n f j : ℕ) → f < 8 * n → j < 32
-    → getD (written p o c n) (32 * f + j) 0 ≡ octet p o (carries p o c (f / 8)) f j
+    → getD (written p o c n) (32 * f + j) 0 ≡ octetIn p o (carries p o c (f / 8)) f j
 unfolding block
 octet-at p o c n f j hf hj =
     let b = f / 8 in
@@ -65,44 +78,35 @@ octet-at p o c n f j hf hj =
     let e₂ : i % 32 ≡ j = omega arith in
     ap (λ x. getD (written p o c n) x 0) e
     ∙ block-octet-at p o c n b i (omega arith) (omega arith)
-    ∙ getD-tab 256 (λ i. octet p o k (8 * b + i / 32) (i % 32)) i 0 (omega arith)
-    ∙ ap₂ (octet p o k) e₁ e₂
+    ∙ getD-tab 256 (λ i. octetIn p o k (8 * b + i / 32) (i % 32)) i 0 (omega arith)
+    ∙ ap₂ (octetIn p o k) e₁ e₂
 
 -- checks
-pub block-check-lt : (s : List ℕ) (q : ℕ) → blockCheck s q < 16
-unfolding blockCheck
-block-check-lt s q =
-    check-lt 4 (lit≤ tt) (blockBits s q)
-    (λ i.
-    elim (decLt i 2048) [
-      | yes h ↦ rw (block-at s q i h) (block-bit-lt s q i)
-      | no h ↦ let e : getD (blockBits s q) i 0 ≡ 0 = List·getD-eq-default (blockBits s q) 0 (omega (arith, block-length s q)) in omega arith
-    ])
-
 pub carries-lt : (p o : List ℕ) (c b : ℕ) → c < 16 → carries p o c b < 16
 unfolding carries
 carries-lt p o c zero h = h
 carries-lt p o c (suc b) h = block-check-lt (block p o (carries p o c b) b) 0
 
 -- a block's check is that of its octets
-check-of-octets : (s t : List ℕ) (b : ℕ) → ((i : ℕ) → i < 256 → getD s (256 * b + i) 0 ≡ getD t i 0) → blockCheck s (2048 * b) ≡ blockCheck t 0
-unfolding blockCheck blockBits blockBit
+check-of-octets : (s t : List ℕ) (b : ℕ) → ((i : ℕ) → i < 256 → getD s (256 * b + i) 0 ≡ getD t i 0)
+    → blockCheck s (2048 * b) ≡ blockCheck t 0
+unfolding blockCheck
 check-of-octets s t b h =
     ap (check 4)
-    (tab-agree 2048 (blockBit s (2048 * b)) (blockBit t 0)
-    (λ i hi.
+    (striped-agree 512 0 2048 (λ i. bitAt s (2048 * b + i)) (λ i. bitAt t (0 + i))
+    (λ i hi z.
     let q = i / 8 in
     let r = i % 8 in
     let e₁ : 2048 * b + i ≡ 8 * (256 * b + q) + r = omega arith in
     let e₂ : 0 + i ≡ 8 * q + r = omega arith in
-    ap (cond (isCheckPlace i) 0)
-    (ap (bitAt s) e₁ ∙ bit-in s (256 * b + q) r (omega arith) ∙ ap (λ x. x / 2 ^ (7 - r) % 2) (h q (omega arith))
-    ∙ sym (ap (bitAt t) e₂ ∙ bit-in t q r (omega arith)))))
+    ap (bitAt s) e₁ ∙ bit-in s (256 * b + q) r (omega arith) ∙ ap (λ x. x / 2 ^ (7 - r) % 2) (h q (omega arith))
+    ∙ sym (ap (bitAt t) e₂ ∙ bit-in t q r (omega arith))))
 
 -- the check of block b
 pub check-at : (p o : List ℕ) (c n b : ℕ) → b < n → blockCheck (written p o c n) (2048 * b) ≡ carries p o c (suc b)
 unfolding carries
-check-at p o c n b h = check-of-octets (written p o c n) (block p o (carries p o c b) b) b (λ i hi. block-octet-at p o c n b i h hi)
+check-at p o c n b h =
+    check-of-octets (written p o c n) (block p o (carries p o c b) b) b (λ i hi. block-octet-at p o c n b i h hi)
 
 -- slot 0
 even-slot0 : (k i x : ℕ) → slot0 k (2 * i) x ≡ evenSlot0 (checkBit k (2 * i))
@@ -117,10 +121,6 @@ either-lt : (t : Bool) {a b m : ℕ} → a < m → b < m → cond t a b < m
 either-lt true ha hb = ha
 either-lt false ha hb = hb
 
-pub signal-lt : (h : ℕ) → h < 8 → getD signal h 0 < 2
-unfolding all
-signal-lt h l = ltb-true (getD signal h 0) 2 (all-at 8 (λ h. ltb (getD signal h 0) 2) refl h l)
-
 bit1-lt : (f x : ℕ) → x < 128 → bit1 f x < 2
 bit1-lt f x h = either-lt (ltb (f / 2 % 8) 6) (signal-lt (f / 2 % 8) (mod-lt (f / 2) (lit< tt))) (omega arith)
 
@@ -134,22 +134,6 @@ odd-first b y hb hy = omega arith
 odd-second : (b y : ℕ) → y < 64 → (128 * b + 64 + y) / 64 % 2 ≡ 1
 odd-second b y hy = let e : (128 * b + 64 + y) / 64 ≡ 2 * b + 1 = omega arith in ap (λ z. z % 2) e ∙ omega arith
 
-four-bits-of : (k : ℕ) → k < 16 → 8 * (k / 8 % 2) + 4 * (k / 4 % 2) + 2 * (k / 2 % 2) + k / 1 % 2 ≡ k
-unfolding all
-four-bits-of k h = eqb-true (bits k) k (all-at 16 (λ k. eqb (bits k) k) refl k h)
-  where
-    bits : ℕ → ℕ
-    bits k = 8 * (k / 8 % 2) + 4 * (k / 4 % 2) + 2 * (k / 2 % 2) + k / 1 % 2
-
--- a table of a list's elements
-tab-of : (n : ℕ) (f : ℕ → ℕ) (l : List ℕ) → length l ≡ n → ((i : ℕ) → i < n → f i ≡ getD l i 0) → tab n f ≡ l
-tab-of n f l e h =
-    ext-getD 0 (tab n f) l (length-tab n f ∙ sym e) (λ i hi. let hi' : i < n = rw length-tab at hi in getD-tab n f i 0 hi' ∙ h i hi')
-
--- the overhead octet of the odd frame 2h + 1, of whose slot 0 x is the octet: A and Sa4 to Sa8, and E in frames 13 and 15
-abbrev pub overheadOf : ℕ → ℕ → ℕ
-overheadOf h x = if ltb (h % 8) 6 then x % 64 else 64 * (x / 128) + x % 64
-
 -- n multiframes
 module _ {p o : List ℕ} {c n : ℕ} (g : Inputs p o c n) where
   abbrev line : List ℕ
@@ -162,19 +146,23 @@ module _ {p o : List ℕ} {c n : ℕ} (g : Inputs p o c n) where
   pub overhead-lt : (h : ℕ) → getD o h 0 < 128
   overhead-lt h = omega (arith, g .limited h, limit-range h .1)
 
-  octet-of : (f j : ℕ) → f < 16 * n → j < 32 → octet p o (checkIn f) f j < 256 → octetAt line (slot 0 f j) ≡ octet p o (checkIn f) f j
+  octet-of : (f j : ℕ) → f < 16 * n → j < 32 → octetIn p o (checkIn f) f j < 256
+      → octetAt line (slotAt 0 f j) ≡ octetIn p o (checkIn f) f j
   octet-of f j hf hj h =
-      let e : slot 0 f j ≡ 8 * (32 * f + j) + 0 = omega arith in
-      ap (octetAt line) e ∙ field-in line (32 * f + j) 0 8 0 refl ∙ omega (arith, octet-at p o c (2 * n) f j (omega arith) hj)
+      let e : slotAt 0 f j ≡ 8 * (32 * f + j) + 0 = omega arith in
+      ap (octetAt line) e ∙ field-in line (32 * f + j) 0 8 0 refl
+      ∙ omega (arith, octet-at p o c (2 * n) f j (omega arith) hj)
 
   -- each payload octet
-  pub payload-at : (f j : ℕ) → f < 16 * n → 1 ≤ j → j ≤ 31 → getD p (indexOf f j) 0 < 256 → octetAt line (slot 0 f j) ≡ getD p (indexOf f j) 0
+  pub payload-at : (f j : ℕ) → f < 16 * n → 1 ≤ j → j ≤ 31 → getD p (indexOf f j) 0 < 256
+      → octetAt line (slotAt 0 f j) ≡ getD p (indexOf f j) 0
   payload-at f j hf h1 h31 h =
       let z : eqb j 0 ≡ false = ne-eqb j 0 (λ e. omega arith) in
-      let e : octet p o (checkIn f) f j ≡ getD p (indexOf f j) 0 = rw z in
+      let e : octetIn p o (checkIn f) f j ≡ getD p (indexOf f j) 0 = rw z in
       octet-of f j hf (omega arith) (rw e h) ∙ e
 
-  pub payload-back : ((i : ℕ) → getD p i 0 < 256) → tab (31 * (16 * n)) (λ i. octetAt line (slot 0 (frameOf i) (slotOf i))) ≡ p
+  pub payload-back : ((i : ℕ) → getD p i 0 < 256)
+      → tab (31 * (16 * n)) (λ i. octetAt line (slotAt 0 (frameOf i) (slotOf i))) ≡ p
   payload-back h =
       tab-of (31 * (16 * n)) _ p (omega arith)
       (λ i l.
@@ -182,42 +170,45 @@ module _ {p o : List ℕ} {c n : ℕ} (g : Inputs p o c n) where
       payload-at (frameOf i) (slotOf i) (omega arith) (omega arith) (omega arith) (rw e (h i)) ∙ ap (λ m. getD p m 0) e)
 
   -- slot 0 of each frame
-  pub slot0-at : (f : ℕ) → f < 16 * n → octetAt line (slot 0 f 0) ≡ slot0 (checkIn f) f (getD o (f / 2) 0)
+  pub slot0-at : (f : ℕ) → f < 16 * n → octetAt line (slotAt 0 f 0) ≡ slot0 (checkIn f) f (getD o (f / 2) 0)
   slot0-at f h = octet-of f 0 h (lit< tt) (slot0-lt (checkIn f) f (getD o (f / 2) 0) (overhead-lt (f / 2)))
 
   -- and what stands in it, at a place x that is r bits into it
-  module _ (f x r : ℕ) (h : f < 16 * n) (e : x ≡ frame 0 f + r) where
+  module _ (f x r : ℕ) (h : f < 16 * n) (e : x ≡ frameAt 0 f + r) where
     here : x ≡ 8 * (32 * f + 0) + r
     here = omega arith
 
     field-of : (k m : ℕ) → r + k + m ≡ 8 → field line x k ≡ slot0 (checkIn f) f (getD o (f / 2) 0) / 2 ^ m % 2 ^ k
     field-of k m d =
-        ap (λ y. field line y k) here ∙ field-in line (32 * f + 0) r k m d ∙ ap (λ y. y / 2 ^ m % 2 ^ k) (octet-at p o c (2 * n) f 0 (omega arith) (lit< tt))
+        ap (λ y. field line y k) here ∙ field-in line (32 * f + 0) r k m d
+        ∙ ap (λ y. y / 2 ^ m % 2 ^ k) (octet-at p o c (2 * n) f 0 (omega arith) (lit< tt))
 
     bit-of : r < 8 → bitAt line x ≡ slot0 (checkIn f) f (getD o (f / 2) 0) / 2 ^ (7 - r) % 2
     bit-of d =
-        ap (bitAt line) here ∙ bit-in line (32 * f + 0) r d ∙ ap (λ y. y / 2 ^ (7 - r) % 2) (octet-at p o c (2 * n) f 0 (omega arith) (lit< tt))
+        ap (bitAt line) here ∙ bit-in line (32 * f + 0) r d
+        ∙ ap (λ y. y / 2 ^ (7 - r) % 2) (octet-at p o c (2 * n) f 0 (omega arith) (lit< tt))
 
   -- the even frame 2i
   module _ (i : ℕ) (h : i < 8 * n) where
     even-at : slot0 (checkIn (2 * i)) (2 * i) (getD o (2 * i / 2) 0) ≡ evenSlot0 (checkBit (carries p o c (i / 4)) (2 * i))
     even-at =
         let e : 2 * i / 8 ≡ i / 4 = omega arith in
-        even-slot0 (checkIn (2 * i)) i (getD o (2 * i / 2) 0) ∙ ap (λ b. evenSlot0 (checkBit (carries p o c b) (2 * i))) e
+        even-slot0 (checkIn (2 * i)) i (getD o (2 * i / 2) 0)
+        ∙ ap (λ b. evenSlot0 (checkBit (carries p o c b) (2 * i))) e
 
     -- the word
-    pub word-at : wordAt line (frame 0 (2 * i)) ≡ true
+    pub word-at : wordAt line (frameAt 0 (2 * i)) ≡ true
     word-at =
         let b = checkBit (carries p o c (i / 4)) (2 * i) in
         let d : (128 * b + 27) / 1 % 128 ≡ 27 = omega arith in
-        eq-eqb _ _ (field-of (2 * i) (frame 0 (2 * i) + 1) 1 (omega arith) refl 7 0 refl ∙ ap (λ y. y / 1 % 128) even-at ∙ d)
+        eq-eqb _ _ (field-of (2 * i) (frameAt 0 (2 * i) + 1) 1 (omega arith) refl 7 0 refl ∙ ap (λ y. y / 1 % 128) even-at ∙ d)
 
     -- a check bit
-    pub check-bit-at : bitAt line (frame 0 (2 * i)) ≡ checkBit (carries p o c (i / 4)) (2 * i)
+    pub check-bit-at : bitAt line (frameAt 0 (2 * i)) ≡ checkBit (carries p o c (i / 4)) (2 * i)
     check-bit-at =
         let b = checkBit (carries p o c (i / 4)) (2 * i) in
         let d : (128 * b + 27) / 128 % 2 ≡ b = omega arith in
-        bit-of (2 * i) (frame 0 (2 * i)) 0 (omega arith) (omega arith) (lit< tt) ∙ ap (λ y. y / 128 % 2) even-at ∙ d
+        bit-of (2 * i) (frameAt 0 (2 * i)) 0 (omega arith) (omega arith) (lit< tt) ∙ ap (λ y. y / 128 % 2) even-at ∙ d
 
   -- the odd frame 2i + 1, whose overhead octet is x
   module _ (i : ℕ) (h : i < 8 * n) where
@@ -234,59 +225,58 @@ module _ {p o : List ℕ} {c n : ℕ} (g : Inputs p o c n) where
     odd-at = ap (λ h. slot0 (checkIn (2 * i + 1)) (2 * i + 1) (getD o h 0)) half ∙ odd-slot0 (checkIn (2 * i + 1)) i x
 
     -- bit 1
-    bit-1-at : bitAt line (frame 0 (2 * i + 1)) ≡ b
+    bit-1-at : bitAt line (frameAt 0 (2 * i + 1)) ≡ b
     bit-1-at =
-        bit-of (2 * i + 1) (frame 0 (2 * i + 1)) 0 (omega arith) (omega arith) (lit< tt) ∙ ap (λ y. y / 128 % 2) odd-at
+        bit-of (2 * i + 1) (frameAt 0 (2 * i + 1)) 0 (omega arith) (omega arith) (lit< tt)
+        ∙ ap (λ y. y / 128 % 2) odd-at
         ∙ odd-first b (x % 64) (bit1-lt (2 * i + 1) x (overhead-lt i)) (omega arith)
 
     -- the signal in frames 1 to 11
-    pub signal-at : i % 8 < 6 → bitAt line (frame 0 (2 * i + 1)) ≡ getD signal (i % 8) 0
+    pub signal-at : i % 8 < 6 → bitAt line (frameAt 0 (2 * i + 1)) ≡ getD signal (i % 8) 0
     signal-at l = bit-1-at ∙ rw (half, lt-ltb (i % 8) 6 l)
 
     -- E in frames 13 and 15
-    pub e-bit-at : 6 ≤ i % 8 → bitAt line (frame 0 (2 * i + 1)) ≡ x / 64
+    pub e-bit-at : 6 ≤ i % 8 → bitAt line (frameAt 0 (2 * i + 1)) ≡ x / 64
     e-bit-at l = bit-1-at ∙ rw (half, le-ltb (i % 8) 6 l)
 
     -- bit 2
-    pub bit-2-at : bitAt line (frame 0 (2 * i + 1) + 1) ≡ 1
+    pub bit-2-at : bitAt line (frameAt 0 (2 * i + 1) + 1) ≡ 1
     bit-2-at =
-        bit-of (2 * i + 1) (frame 0 (2 * i + 1) + 1) 1 (omega arith) refl (lit< tt) ∙ ap (λ y. y / 64 % 2) odd-at ∙ odd-second b (x % 64) (omega arith)
+        bit-of (2 * i + 1) (frameAt 0 (2 * i + 1) + 1) 1 (omega arith) refl (lit< tt) ∙ ap (λ y. y / 64 % 2) odd-at
+        ∙ odd-second b (x % 64) (omega arith)
 
     -- A and Sa4 to Sa8
-    pub spare-at : field line (frame 0 (2 * i + 1) + 2) 6 ≡ x % 64
+    pub spare-at : field line (frameAt 0 (2 * i + 1) + 2) 6 ≡ x % 64
     spare-at =
         let d : (128 * b + 64 + x % 64) / 1 % 64 ≡ x % 64 = omega arith in
-        field-of (2 * i + 1) (frame 0 (2 * i + 1) + 2) 2 (omega arith) refl 6 0 refl ∙ ap (λ y. y / 1 % 64) odd-at ∙ d
+        field-of (2 * i + 1) (frameAt 0 (2 * i + 1) + 2) 2 (omega arith) refl 6 0 refl ∙ ap (λ y. y / 1 % 64) odd-at ∙ d
 
     -- from all of it the overhead octet comes back
-    pub overhead-at : overheadOf i (octetAt line (slot 0 (2 * i + 1) 0)) ≡ x
+    pub overhead-at : overheadOf i (octetAt line (slotAt 0 (2 * i + 1) 0)) ≡ x
     overhead-at =
-        ap (overheadOf i) (slot0-at (2 * i + 1) (omega arith) ∙ odd-at) ∙ rw half (back (ltb (i % 8) 6) (getD signal (i % 8) 0) x (g .limited i))
+        ap (overheadOf i) (slot0-at (2 * i + 1) (omega arith) ∙ odd-at)
+        ∙ rw half (back (ltb (i % 8) 6) (getD signal (i % 8) 0) x (g .limited i))
       where
         back : (t : Bool) (a x : ℕ) → x < (if t then 64 else 128)
             → (let y = oddSlot0 (cond t a (x / 64)) x in if t then y % 64 else 64 * (y / 128) + y % 64) ≡ x
         back true a x h = omega arith
         back false a x h = omega arith
 
-  pub overhead-back : tab (8 * n) (λ h. overheadOf h (octetAt line (slot 0 (2 * h + 1) 0))) ≡ o
+  pub overhead-back : tab (8 * n) (λ h. overheadOf h (octetAt line (slotAt 0 (2 * h + 1) 0))) ≡ o
   overhead-back = tab-of (8 * n) _ o (g .overhead-length) overhead-at
 
   -- the check bits of block b carry the check of the block before it
   pub carried-at : (b : ℕ) → b < 2 * n → carried line (2048 * b) ≡ carries p o c b
   unfolding carried
   carried-at b h =
-      rw (
-        at 0 (2048 * b) (lit< tt) (omega arith),
-        at 1 (2048 * b + 512) (lit< tt) refl,
-        at 2 (2048 * b + 1024) (lit< tt) refl,
-        at 3 (2048 * b + 1536) (lit< tt) refl,
-      )
-      (four-bits-of (carries p o c b) (carries-lt p o c b (g .four-bits)))
+      let k = carries p o c b in
+      spelt-agree 4 (λ t. bitAt line (2048 * b + 512 * t)) (digit 4 k) at
+      ∙ spelt-digits 4 k (carries-lt p o c b (g .four-bits))
     where
-      at : (t x : ℕ) → t < 4 → x ≡ 2048 * b + 512 * t → bitAt line x ≡ carries p o c b / 2 ^ (3 - t) % 2
-      at t x l e =
+      at : (t : ℕ) → t < 4 → bitAt line (2048 * b + 512 * t) ≡ carries p o c b / 2 ^ (3 - t) % 2
+      at t l =
           let i = 4 * b + t in
-          let e₀ : x ≡ frame 0 (2 * i) = omega arith in
+          let e₀ : 2048 * b + 512 * t ≡ frameAt 0 (2 * i) = omega arith in
           let e₁ : i / 4 ≡ b = omega arith in
           let e₂ : 2 * i / 2 ≡ i = omega arith in
           let e₃ : i % 4 ≡ t = omega arith in
@@ -301,4 +291,6 @@ module _ {p o : List ℕ} {c n : ℕ} (g : Inputs p o c n) where
 
   -- and the check of the last is the one that is answered
   pub last-check : 1 ≤ n → blockCheck line (2048 * (2 * n - 1)) ≡ carries p o c (2 * n)
-  last-check h = let e : suc (2 * n - 1) ≡ 2 * n = omega arith in check-at p o c (2 * n) (2 * n - 1) (omega arith) ∙ ap (carries p o c) e
+  last-check h =
+      let e : suc (2 * n - 1) ≡ 2 * n = omega arith in check-at p o c (2 * n) (2 * n - 1) (omega arith)
+      ∙ ap (carries p o c) e
