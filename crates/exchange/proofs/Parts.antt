@@ -6,17 +6,18 @@ use mathlib.Core.List.{List, _∷_, _++_, append-assoc}
 use native.Mathlib.Omega.{arith}
 use native.Mathlib.Numerals.{add-one}
 use lib.ListN.{length, getD, take, drop, set, length-append, length-drop}
-use lib.Seq.{take-suc, take-suc-set, take-at, drop-at, drop-drop, take-add, take-length, length-take-le}
+use lib.Seq.{take-at, drop-at, drop-drop, take-add, take-length, length-take-le}
 use lib.Dec.{eqb}
 use borrow.Author.Tests.{eqb-true, ne-eqb}
-use Rattle.line.specs.Tab.{tabFrom, tab}
-use Rattle.line.specs.TabLaws.{getD-tab, tab-agree}
-use Rattle.line.specs.PartLaws.{copy-more}
-use Rattle.e1.specs.Answer.{if_then_else_}
+use Rattle.base.specs.Tab.{tabFrom, tab}
+use Rattle.base.proofs.TabLaws.{getD-tab, tab-agree}
+use Rattle.base.proofs.PartLaws.{copy-more}
+use Rattle.base.specs.Choice.{if_then_else_}
 use Rattle.e1.specs.Payload.{indexOf, frameOf, slotOf, sized}
-use Rattle.exchange.specs.Laws.{refused-mapping}
-use Rattle.exchange.specs.Mapping.{entryUsed, entryAt, slotOctet, mappedPayload, mapNumber, Mapped}
-use Rattle.exchange.specs.MapLaws.{entry-within, entry-small, octetOf, mapped-length, mapped-append, accepted-mapping}
+use Rattle.exchange.proofs.Laws.{refused-mapping}
+use Rattle.exchange.specs.Mapping.{entryUsed, entryAt, slotOctet, mappedPayload, mapRefusal, Mapped}
+use Rattle.exchange.proofs.MapLaws.{entry-within, entry-small, octetOf, mapped-length, mapped-append}
+use Rattle.exchange.proofs.MapLaws.{accepted-mapping}
 
 -- a frame with 255 before its slots: one slot more of it, and its octet by an entry
 pub slots-more : (p xs : List ℕ) (j : ℕ) → j + 1 < length xs → j < length p → take (j + 1) xs ≡ take (j + 1) (255 ∷ p)
@@ -30,7 +31,8 @@ slot-of-entry : (p : List ℕ) (e : ℕ) → getD (255 ∷ p) e 0 ≡ (if eqb e 
 slot-of-entry p zero = refl
 slot-of-entry p (suc e) = let i : indexOf 0 (suc e) ≡ e = omega arith in rw (ne-eqb (suc e) 0 (λ q. omega arith), i)
 
-pub slot-taken : (m p : List ℕ) (i : ℕ) → i < 31 → getD m (i + 1) 0 ≤ 31 → getD (255 ∷ p) (getD m (i + 1) 0) 0 ≡ octetOf m p i
+pub slot-taken : (m p : List ℕ) (i : ℕ) → i < 31 → getD m (i + 1) 0 ≤ 31
+    → getD (255 ∷ p) (getD m (i + 1) 0) 0 ≡ octetOf m p i
 unfolding slotOctet
 slot-taken m p i l h =
     let f : frameOf i ≡ 0 = omega arith in
@@ -87,10 +89,10 @@ module _ (m p d : List ℕ) where
       ∙ omega arith
 
   -- the contract, of a refused call and of all frames
-  pub refused : (n : ℕ) → (n ≡ 0 → ⊥) → n ≡ mapNumber p d → Mapped m p d n d
+  pub refused : (n : ℕ) → (n ≡ 0 → ⊥) → n ≡ mapRefusal p d → Mapped m p d n d
   refused n h e = record { its-number = e; its-out = sym (refused-mapping m p d (λ z. h (e ∙ z))) }
 
-  pub all-done : (o : List ℕ) (k : ℕ) → 31 * k ≡ length p → o ≡ done k → 0 ≡ mapNumber p d → Mapped m p d 0 o
+  pub all-done : (o : List ℕ) (k : ℕ) → 31 * k ≡ length p → o ≡ done k → 0 ≡ mapRefusal p d → Mapped m p d 0 o
   all-done o k h e z =
       record {
         its-number = z;

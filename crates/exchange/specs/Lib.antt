@@ -1,6 +1,3 @@
-pub mod Machine
 pub mod Mapping
+pub mod Machine
 pub mod Runs
-pub mod Laws
-pub mod MapLaws
-pub mod RunLaws

@@ -3,13 +3,14 @@ ghost use mathlib.Core.Path.{_≡_};
 ghost use mathlib.Core.List.{_∷_};
 ghost use Prim.Native.Nat.{ℕ, _<_, _≤_};
 ghost use lib.ListN.{length, getD};
-ghost use Rattle.line.specs.Tab.{tab};
+ghost use Rattle.base.specs.Tab.{tab};
 ghost use Rattle.exchange.specs.Mapping.{entryUsed, entryAt, mappedPayload, Mapped};
-ghost use Rattle.exchange.specs.Machine.{startState, accept, refuse, keyed, bounded};
-ghost use Rattle.exchange.specs.Machine.{between, outside, locked, unstaged, hostNumber};
-ghost use Rattle.exchange.specs.Machine.{stage, commit, discard, hostAfter, hostEntry, hosted};
+ghost use Rattle.exchange.specs.Machine.{startState, accept, refuse, keyed, crossed, between, outside, locked};
+ghost use Rattle.exchange.specs.Machine.{unstaged, hostRefusal, stage, commit, discard, hostAfter, hostEntry};
+ghost use Rattle.exchange.specs.Machine.{hosted};
 
-// the flag, a live map, perhaps a staged one, perhaps a waiting one; a map has the entry of output slot j at its index j
+// the flag, a live map, perhaps a staged one, perhaps a waiting one; a map has the entry of output slot j at its index
+// j
 pub struct State {
     pub flag: bool,
     pub staging: bool,
@@ -92,8 +93,8 @@ fn is_unstaged(kind: u8, staging: bool) -> bool
 }
 
 // the number of a host record
-fn host_number(state: State, octets: &[u8]) -> u64
-    ensures { λ r. ⌜ r ≡ hostNumber state (now (octets .entry)) ⌝ }
+fn host_refusal(state: State, octets: &[u8]) -> u64
+    ensures { λ r. ⌜ r ≡ hostRefusal state (now (octets .entry)) ⌝ }
 {
     let flag = state.flag;
     let staging = state.staging;
@@ -156,7 +157,7 @@ fn discard(state: State) -> State
 
 // what an accepted record leaves
 fn host_after(state: State, octets: &[u8]) -> State
-    requires { ⌜ hostNumber state (now octets) ≡ 0 ⌝ }
+    requires { ⌜ hostRefusal state (now octets) ≡ 0 ⌝ }
     ensures { λ r. ⌜ r ≡ hostAfter state (now (octets .entry)) ⌝ }
 {
     let kind = octets[0];
@@ -181,7 +182,7 @@ fn used(entry: u8) -> u8
 
 // what an accepted record reads
 fn host_entry(state: State, octets: &[u8]) -> u8
-    requires { ⌜ hostNumber state (now octets) ≡ 0 ⌝ }
+    requires { ⌜ hostRefusal state (now octets) ≡ 0 ⌝ }
     ensures { λ r. ⌜ r ≡ hostEntry state (now (octets .entry)) ⌝ }
 {
     if octets[0] == 3 {
@@ -195,7 +196,7 @@ fn host_entry(state: State, octets: &[u8]) -> u8
 pub fn host(state: State, octets: &[u8]) -> Answered
     ensures { λ r. ⌜ r ≡ hosted state (now (octets .entry)) ⌝ }
 {
-    let number = host_number(state, octets);
+    let number = host_refusal(state, octets);
     if number != 0 {
         return refused(state, number);
     }
@@ -222,7 +223,7 @@ pub fn key(state: State, position: u64) -> Answered
 
 // a multiframe boundary
 pub fn boundary(state: State) -> Answered
-    ensures { λ r. ⌜ r ≡ bounded state ⌝ }
+    ensures { λ r. ⌜ r ≡ crossed state ⌝ }
 {
     let mut s = state;
     s.pending = false;

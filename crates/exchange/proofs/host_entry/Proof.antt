@@ -6,11 +6,12 @@ use borrow.Author.Needs.{needs}
 use borrow.Author.Tests.{eq-eqb, ne-eqb}
 use denote.Ref.{now}
 use Rattle.exchange.specs.Machine.{aOf, hostEntry}
-use Rattle.exchange.specs.Laws.{accepted-passed, slot-named}
+use Rattle.exchange.proofs.Laws.{accepted-passed, slot-named}
 use Rattle.exchange.proofs.host_entry.Statement.{statement}
 use Rattle.exchange.proofs.host_entry.Tie as tie
 
-slot : (c : tie.Then1) → (1 ≤ aOf (now (c .before .before .before .args .octets))) × (aOf (now (c .before .before .before .args .octets)) ≤ 31)
+slot : (c : tie.Then1)
+    → (1 ≤ aOf (now (c .before .before .before .args .octets))) × (aOf (now (c .before .before .before .args .octets)) ≤ 31)
 slot c = slot-named _ _ (c .before .before .before .pre) (rw (c .if1 .taken))
 
 pub host-entry-spec : {M : Type 1} → statement M

@@ -3,12 +3,12 @@ use Prim.Native.Nat.{_+_, _≤_, _-_}
 use mathlib.Core.Path.{_≡_, refl, ap, _∙_}
 use native.Mathlib.Omega.{arith}
 use borrow.Author.Needs.{needs}
-use lib.ListN.{length, getD, take, length-set}
+use lib.ListN.{length, getD, set, take, length-set}
 use denote.Ref.{now}
-use Rattle.line.specs.Tab.{tabFrom, tab}
-use Rattle.line.specs.TabLaws.{fill-more, tab-fill}
+use Rattle.base.specs.Tab.{tabFrom, tab}
+use Rattle.base.proofs.TabLaws.{fill-more, tab-fill}
 use Rattle.exchange.specs.Mapping.{mappedPayload}
-use Rattle.exchange.specs.MapLaws.{octetOf}
+use Rattle.exchange.proofs.MapLaws.{octetOf}
 use Rattle.exchange.proofs.Parts.{slot-taken}
 use Rattle.exchange.proofs.map_frame.Statement.{statement}
 use Rattle.exchange.proofs.map_frame.Tie as tie
@@ -39,7 +39,8 @@ loop-again c =
     let v = ap (λ x. getD x (getD m (l .i + 1) 0) 0) (w .slots .ensures) ∙ slot-taken m f (l .i) (omega arith) (s .pre .0 (l .i + 1) (omega arith)) in (
       omega arith,
       simp length-set (l .inv .1),
-      rw v (fill-more (l .out) (l .i) (octetOf m f) (omega arith) (l .inv .2)),
+      ap (λ x. take (l .i + 1) (set (l .out) (l .i) x)) v
+          ∙ fill-more (l .out) (l .i) (octetOf m f) (omega arith) (l .inv .2),
     )
 
 returns : tie.Need-returns Inv-loop μ-loop

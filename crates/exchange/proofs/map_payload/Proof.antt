@@ -1,4 +1,5 @@
--- `map_payload` meets its contract. At the loop's head the first f frames of the output are mapped, and the rest is as it was.
+-- `map_payload` meets its contract. At the loop's head the first f frames of the output are mapped, and the rest is as
+-- it was.
 use Prim.Native.Nat.{_+_, _-_, _*_, _≤_}
 use mathlib.Core.Path.{_≡_, refl, sym, ap, _∙_}
 use mathlib.Core.List.{_++_}
@@ -7,9 +8,10 @@ use borrow.Author.Needs.{needs}
 use borrow.Author.Tests.{lt-ltb, le-ltb, not-true, not-false}
 use lib.ListN.{length, take, drop}
 use denote.Ref.{now}
-use Rattle.line.specs.PartLaws.{part-length}
-use Rattle.exchange.specs.Mapping.{mapNumber}
-use Rattle.exchange.proofs.Parts.{entries-small, entries-same, done, done-none, done-more, done-length, refused, all-done, whole-frames}
+use Rattle.base.proofs.PartLaws.{part-length}
+use Rattle.exchange.specs.Mapping.{mapRefusal}
+use Rattle.exchange.proofs.Parts.{entries-small, entries-same, done, done-none, done-more, done-length, refused}
+use Rattle.exchange.proofs.Parts.{all-done, whole-frames}
 use Rattle.exchange.proofs.map_payload.Statement.{statement}
 use Rattle.exchange.proofs.map_payload.Tie as tie
 
@@ -20,14 +22,14 @@ abbrev μ-loop : tie.MeasureT-loop
 μ-loop payload out₀ n map f₀ f-end out f = f-end - f
 
 returns : tie.Need-returns Inv-loop μ-loop
-unfolding mapNumber
+unfolding mapRefusal
 returns c =
     let a = c .before .before .before .before .args in
     let e = sym (c .before .is-sized .ensures) ∙ not-true _ (c .if1 .taken) in
     refused (a .state .live) (now (a .payload)) (now (a .out)) 5 (λ z. omega arith) (rw e)
 
 returns-2 : tie.Need-returns-2 Inv-loop μ-loop
-unfolding mapNumber
+unfolding mapRefusal
 returns-2 c =
     let a = c .before .before .before .before .before .args in
     let e = sym (c .before .before .is-sized .ensures) ∙ not-false _ (c .before .if1 .left) in
@@ -63,7 +65,7 @@ loop-again c =
     (omega arith, ap length t ∙ done-length m p d (f + 1) (omega arith) (omega arith), t)
 
 returns-3 : tie.Need-returns-3 Inv-loop μ-loop
-unfolding mapNumber
+unfolding mapRefusal
 returns-3 c =
     let l = c .before .loop in
     let w = c .before .before .entries in

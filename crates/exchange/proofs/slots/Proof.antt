@@ -4,7 +4,7 @@ use mathlib.Core.Path.{_≡_, refl}
 use mathlib.Core.List.{List, _∷_}
 use native.Mathlib.Omega.{arith}
 use lib.ListN.{length, take, length-set}
-use Rattle.line.specs.PartLaws.{copy-done}
+use Rattle.base.proofs.PartLaws.{copy-done}
 use Rattle.exchange.proofs.Parts.{slots-more}
 use Rattle.exchange.proofs.slots.Statement.{statement}
 use Rattle.exchange.proofs.slots.Tie as tie

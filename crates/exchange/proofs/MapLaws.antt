@@ -1,5 +1,5 @@
 -- Mapping, octet by octet.
-use Prim.Native.Nat.{ℕ, _+_, _-_, _*_, _/_, _<_, _≤_}
+use Prim.Native.Nat.{ℕ, _+_, _*_, _/_, _<_, _≤_}
 use mathlib.Core.Path.{_≡_, refl, sym, ap, ap₂, _∙_}
 use mathlib.Core.Bool.{Bool, true, false}
 use mathlib.Core.List.{List, _++_}
@@ -8,13 +8,13 @@ use lib.Dec.{leb}
 use lib.ListN.{length, getD, drop, length-append, List·getD-append}
 use lib.Seq.{ext-getD, getD-append-add}
 use borrow.Author.Tests.{ne-eqb, le-leb, lt-leb, leb-true}
-use Rattle.line.specs.Tab.{tab}
-use Rattle.line.specs.TabLaws.{length-tab, getD-tab, tab-agree, tab-split}
-use Rattle.e1.specs.Answer.{if_then_else_}
+use Rattle.base.specs.Tab.{tab}
+use Rattle.base.proofs.TabLaws.{length-tab, getD-tab, tab-agree, tab-split}
+use Rattle.base.specs.Choice.{if_then_else_}
 use Rattle.e1.specs.Payload.{indexOf, frameOf, slotOf}
-use Rattle.e1.specs.Laws.{frame-of-index, slot-of-index, index-of}
-use Rattle.e1.specs.Laws.{accepted-so}
-use Rattle.exchange.specs.Mapping.{entryUsed, entryAt, slotOctet, mappedPayload, mapNumber, mapped, Mapped}
+use Rattle.e1.proofs.Laws.{frame-of-index, slot-of-index, index-of}
+use Rattle.base.proofs.AnswerLaws.{accepted-so}
+use Rattle.exchange.specs.Mapping.{entryUsed, entryAt, slotOctet, mappedPayload, mapRefusal, mapped, Mapped}
 
 -- an entry as it is used
 pub entry-within : (e : ℕ) → e ≤ 31 → entryUsed e ≡ e
@@ -35,7 +35,8 @@ pub idle-slot : (m p : List ℕ) (f j : ℕ) → entryAt m j ≡ 0 → slotOctet
 unfolding slotOctet
 idle-slot m p f j e = rw e
 
-pub taken-slot : (m p : List ℕ) (f j : ℕ) → (entryAt m j ≡ 0 → ⊥) → slotOctet m p f j ≡ getD p (indexOf f (entryAt m j)) 0
+pub taken-slot : (m p : List ℕ) (f j : ℕ) → (entryAt m j ≡ 0 → ⊥)
+    → slotOctet m p f j ≡ getD p (indexOf f (entryAt m j)) 0
 unfolding slotOctet
 taken-slot m p f j h = rw (ne-eqb (entryAt m j) 0 h)
 
@@ -60,7 +61,8 @@ module _ (m p : List ℕ) (f j : ℕ) (first : 1 ≤ j) (last : j ≤ 31) (insid
   pub mapped-over : 31 < getD m j 0 → getD (mappedPayload m p) (indexOf f j) 0 ≡ 255
   mapped-over h = mapped-octet ∙ idle-slot m p f j (entry-over (getD m j 0) h)
 
-  pub mapped-entry : (e : ℕ) → getD m j 0 ≡ e → 1 ≤ e → e ≤ 31 → getD (mappedPayload m p) (indexOf f j) 0 ≡ getD p (indexOf f e) 0
+  pub mapped-entry : (e : ℕ) → getD m j 0 ≡ e → 1 ≤ e → e ≤ 31
+      → getD (mappedPayload m p) (indexOf f j) 0 ≡ getD p (indexOf f e) 0
   mapped-entry e q h k =
       let u : entryAt m j ≡ e = rw q (entry-within e k) in
       mapped-octet ∙ taken-slot m p f j (λ z. omega arith) ∙ ap (λ x. getD p (indexOf f x) 0) u
@@ -104,10 +106,12 @@ module _ (m p q : List ℕ) (k : ℕ) (whole : length p ≡ 31 * k) where
       (λ i h. ap₂ (slotOctet m (p ++ q)) (omega arith) (omega arith) ∙ slot-behind (frameOf i) (slotOf i)))
 
 -- what an accepted call leaves in the output
-pub accepted-mapping : (m p out : List ℕ) → mapNumber p out ≡ 0 → mapped m p out ≡ mappedPayload m p ++ drop (length p) out
+pub accepted-mapping : (m p out : List ℕ) → mapRefusal p out ≡ 0
+    → mapped m p out ≡ mappedPayload m p ++ drop (length p) out
 unfolding mapped
-accepted-mapping m p out z = accepted-so (mapNumber p out) (mappedPayload m p ++ drop (length p) out) out z
+accepted-mapping m p out z = accepted-so (mapRefusal p out) (mappedPayload m p ++ drop (length p) out) out z
 
 -- two results that the contract admits are equal
-pub mapped-single : (m p out : List ℕ) (r r' : ℕ) (out' out'' : List ℕ) → Mapped m p out r out' → Mapped m p out r' out'' → (r ≡ r') × (out' ≡ out'')
+pub mapped-single : (m p out : List ℕ) (r r' : ℕ) (out' out'' : List ℕ) → Mapped m p out r out'
+    → Mapped m p out r' out'' → (r ≡ r') × (out' ≡ out'')
 mapped-single m p out r r' out' out'' a b = (a .its-number ∙ sym (b .its-number), a .its-out ∙ sym (b .its-out))
