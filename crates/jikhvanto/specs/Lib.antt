@@ -1,4 +1,3 @@
 pub mod Octets
 pub mod Calls
-pub mod Laws
 pub mod Runs

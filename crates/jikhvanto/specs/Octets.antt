@@ -1,20 +1,22 @@
--- A state as 99 octets, and an answer as 16 places.
+-- A state as 99 octets, and an answer as 16 places (KIT §10).
 use Prim.Native.Nat.{ℕ}
 use mathlib.Core.List.{List, [], _∷_, _++_}
 use lib.Dec.{eqb}
 use lib.ListN.{getD, take, drop, replicate}
 use mir.Val.{boolByte}
-use Rattle.e1.specs.Answer.{accepted}
+use Rattle.base.specs.Choice.{if_then_else_}
+use Rattle.base.specs.Answer.{accepted}
+use Rattle.exchange.specs.Machine.{kindOf, hosted}
 use Rattle.exchange.specs.declared.State.{State}
 use Rattle.exchange.specs.declared.Answered.{Answered}
 use Rattle.read.specs.declared.Reading.{Reading}
-use Rattle.write.specs.declared.Written.{Written}
 
 -- the 32 octets of a map
 unfoldable pub mapAt : ℕ → List ℕ → List ℕ
 mapAt from octets = take 32 (drop from octets)
 
--- Any octets are a state: flag, staging and pending, each of them off unless its octet is 1, then the live, the staged and the waiting map.
+-- Any octets are a state: flag, staging and pending, each of them off unless its octet is 1, then the live, the staged
+-- and the waiting map.
 unfoldable pub stateOf : List ℕ → State
 stateOf octets =
     record {
@@ -37,34 +39,20 @@ octetsOf s = flagsOf s ++ s .live ++ s .staged ++ s .waiting
 abbrev pub stored : List ℕ → Answered → List ℕ
 stored octets a = accepted (a .number) (octetsOf (a .state)) octets
 
--- the values in their order, then zeros
+-- a host record of kind 3 only reads: it leaves every octet as it was
+unfoldable pub hostStored : List ℕ → List ℕ → List ℕ
+hostStored octets r = if eqb (kindOf r) 3 then octets else stored octets (hosted (stateOf octets) r)
+
+-- An answer: the number, the values in their order, then zeros.
+
 abbrev pub answerOf : List ℕ → List ℕ
 answerOf values = take 16 (values ++ replicate 16 0)
-
--- a reading, off its places and on them
-abbrev pub readingOf : List ℕ → Reading
-readingOf answer =
-    record {
-      number = getD answer 0 0;
-      place = getD answer 1 0;
-      start = getD answer 2 0;
-      whole = getD answer 3 0;
-      used = getD answer 4 0;
-      lost = getD answer 5 0;
-      words = getD answer 6 0;
-      compared = getD answer 7 0;
-      errored = getD answer 8 0;
-      farend = getD answer 9 0;
-    }
 
 unfoldable pub readingPlaces : Reading → List ℕ
 readingPlaces r =
     answerOf
     (r .number ∷ r .place ∷ r .start ∷ r .whole ∷ r .used ∷ r .lost ∷ r .words ∷ r .compared ∷ r .errored ∷ r .farend ∷ [])
 
--- what is written, and what a host record answers: the number, then the check, or the entry
-abbrev pub writtenOf : List ℕ → Written
-writtenOf answer = record { number = getD answer 0 0; check = getD answer 1 0 }
-
+-- number and value to places 0 and 1: a check that was written, or an entry that a host record reads
 unfoldable pub pairPlaces : ℕ → ℕ → List ℕ
 pairPlaces number value = answerOf (number ∷ value ∷ [])

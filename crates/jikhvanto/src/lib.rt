@@ -2,6 +2,8 @@
 ghost use mathlib.Core.Path.{_≡_};
 ghost use Prim.Native.Nat.{_+_, _≤_};
 ghost use lib.ListN.{length};
+ghost use lib.Dec.{eqb};
+ghost use Rattle.exchange.specs.Machine.{kindOf};
 ghost use Rattle.jikhvanto.specs.Octets.{mapAt, stateOf, octetsOf, stored, readingPlaces, pairPlaces};
 ghost use Rattle.jikhvanto.specs.Calls.{JkRead, JkWrite, JkStart, JkHost, JkKey, JkBoundary, JkMap};
 use exchange::Answered;
@@ -62,6 +64,16 @@ fn pack(state: State) -> [u8; 99]
     octets
 }
 
+// the record is of kind 3, which only reads
+fn is_reading(octets: &[u8]) -> bool
+    ensures { λ r. ⌜ r ≡ eqb (kindOf (now (octets .entry))) 3 ⌝ }
+{
+    if octets.len() == 0 {
+        return false;
+    }
+    octets[0] == 3
+}
+
 // what a call of the machine answered, into the octets unless it is refused, and its number
 fn store(answered: Answered, octets: &mut [u8; 99]) -> u64
     ensures { λ r. ⌜ (r ≡ answered .number) × (now (octets .exit) ≡ stored (now (octets .entry)) answered) ⌝ }
@@ -91,7 +103,7 @@ fn give_reading(r: Reading, answer: &mut [u64; 16])
     answer[9] = r.farend as u64;
 }
 
-// a number and one value, in theirs
+// number and value to places 0 and 1
 fn give_pair(number: u64, value: u64, answer: &mut [u64; 16])
     ensures { λ _. ⌜ now (answer .exit) ≡ pairPlaces number value ⌝ }
 {
@@ -148,6 +160,9 @@ pub extern "C" fn jk_host(state: &mut [u8; 99], octets: &[u8], answer: &mut [u64
 {
     let a = exchange::host(unpack(state), octets);
     give_pair(a.number, a.entry as u64, answer);
+    if is_reading(octets) {
+        return a.number;
+    }
     store(a, state)
 }
 

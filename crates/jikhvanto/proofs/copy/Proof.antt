@@ -4,7 +4,7 @@ use mathlib.Core.Path.{_≡_, refl}
 use native.Mathlib.Omega.{arith}
 use lib.ListN.{length, take, length-set}
 use denote.Ref.{now}
-use Rattle.line.specs.PartLaws.{copy-more, copy-done}
+use Rattle.base.proofs.PartLaws.{copy-more, copy-done}
 use Rattle.jikhvanto.proofs.copy.Statement.{statement}
 use Rattle.jikhvanto.proofs.copy.Tie as tie
 

@@ -1,4 +1,5 @@
 -- `give_pair` meets its contract.
+use mathlib.Core.Path.{refl}
 use borrow.Author.Needs.{needs}
 use Rattle.jikhvanto.specs.Octets.{pairPlaces}
 use Rattle.jikhvanto.proofs.give_pair.Statement.{statement}
@@ -6,4 +7,4 @@ use Rattle.jikhvanto.proofs.give_pair.Tie as tie
 
 pub give-pair-spec : {M : Type 1} → statement M
 unfolding pairPlaces
-give-pair-spec = tie.close (tie.spec (search needs) (search needs) (search needs))
+give-pair-spec = tie.close (tie.spec (search needs) (search needs) (λ c. refl))

@@ -2,7 +2,7 @@
 use mathlib.Core.Path.{ap, _∙_}
 use borrow.Author.Needs.{needs}
 use denote.Ref.{now}
-use Rattle.exchange.specs.Machine.{bounded}
+use Rattle.exchange.specs.Machine.{crossed}
 use Rattle.jikhvanto.specs.Octets.{stored}
 use Rattle.jikhvanto.proofs.jk_boundary.Statement.{statement}
 use Rattle.jikhvanto.proofs.jk_boundary.Tie as tie
@@ -10,7 +10,7 @@ use Rattle.jikhvanto.proofs.jk_boundary.Tie as tie
 returns : tie.Need-returns
 returns c =
     let d = c .before .before in
-    let e = d .boundary .ensures ∙ ap bounded (d .before .unpack .ensures) in
+    let e = d .boundary .ensures ∙ ap crossed (d .before .unpack .ensures) in
     record {
       its-number = c .store .ensures .0 ∙ ap (λ a. a .number) e;
       its-state = c .store .ensures .1 ∙ ap (stored (now (d .before .before .before .args .state))) e;

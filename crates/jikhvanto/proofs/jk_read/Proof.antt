@@ -1,20 +1,22 @@
--- `jk_read` meets its contract: off its places the reading comes back.
-use Prim.Native.Nat.{ℕ}
-use mathlib.Core.Path.{_≡_, sym, ap, _∙_}
+-- `jk_read` meets its contract: what `read` answers, in its places.
+use mathlib.Core.Path.{_≡_, ap, subst, _∙_}
 use mathlib.Core.List.{List}
+use Prim.Native.Nat.{ℕ}
 use borrow.Author.Needs.{needs}
 use Rattle.read.specs.Entry.{Read}
 use Rattle.read.specs.declared.Reading.{Reading}
-use Rattle.jikhvanto.specs.Octets.{readingOf, readingPlaces}
+use Rattle.jikhvanto.specs.Octets.{readingPlaces}
 use Rattle.jikhvanto.specs.Calls.{JkRead}
 use Rattle.jikhvanto.proofs.jk_read.Statement.{statement}
 use Rattle.jikhvanto.proofs.jk_read.Tie as tie
 
 placed : {s p o p' o' answer : List ℕ} {r : Reading} → Read s p o r p' o' → answer ≡ readingPlaces r → JkRead s p o (r .number) p' o' answer
-unfolding readingPlaces
-placed {answer = answer} {r = r} h e =
-    let b : readingOf answer ≡ r = ap readingOf e in
-    record { its-reading = rw b h; its-number = sym (ap (λ x. x .number) b); its-answer = e ∙ ap readingPlaces (sym b) }
+placed {s} {p} {o} {p'} {o'} {r = r} h e =
+    record {
+      its-outputs = subst (λ x. Read s p o x p' o') (h .its-answer) h;
+      its-number = ap (λ (x : Reading). x .number) (h .its-answer);
+      its-answer = e ∙ ap readingPlaces (h .its-answer);
+    }
 
 returns : tie.Need-returns
 returns c = placed (c .before .before .before .before .before .before .read .ensures) (c .give-reading .ensures)

@@ -9,10 +9,12 @@ use lib.ListN.{length, drop, length-append, length-drop}
 use lib.Seq.{take-at, drop-at, length-take-le}
 use mir.Val.{boolByte}
 use Rattle.exchange.specs.declared.State.{State}
-use Rattle.exchange.specs.MapLaws.{mapped-single}
-use Rattle.read.specs.EntryLaws.{read-single}
-use Rattle.write.specs.Calls.{wrote-single}
-use Rattle.jikhvanto.specs.Octets.{mapAt, stateOf, flagsOf, octetsOf, readingPlaces, pairPlaces}
+use Rattle.exchange.proofs.MapLaws.{mapped-single}
+use Rattle.write.specs.Entry.{writing}
+use Rattle.exchange.specs.Machine.{hosted}
+use Rattle.read.proofs.EntryLaws.{read-single}
+use Rattle.write.proofs.Calls.{wrote-single}
+use Rattle.jikhvanto.specs.Octets.{mapAt, stateOf, flagsOf, octetsOf, pairPlaces}
 use Rattle.jikhvanto.specs.Calls.{JkRead, JkWrite, JkStart, JkHost, JkKey, JkBoundary, JkMap}
 
 -- the maps have 32 octets each, as in every state that is unpacked
@@ -62,20 +64,16 @@ module _ (s : State) (m : Maps s) where
 pub jk-read-single : {image payload slot0 : List ℕ} {r r₁ : ℕ} {p p₁ o o₁ a a₁ : List ℕ}
     → JkRead image payload slot0 r p o a → JkRead image payload slot0 r₁ p₁ o₁ a₁ → (r ≡ r₁) × (p ≡ p₁) × (o ≡ o₁) × (a ≡ a₁)
 jk-read-single h k =
-    let e = read-single _ _ _ _ _ _ _ _ _ (h .its-reading) (k .its-reading) in (
-      h .its-number ∙ ap (λ x. x .number) (e .0) ∙ sym (k .its-number),
-      e .1,
-      e .2,
-      h .its-answer ∙ ap readingPlaces (e .0) ∙ sym (k .its-answer),
-    )
+    let e = read-single _ _ _ _ _ _ _ _ _ (h .its-outputs) (k .its-outputs) in
+    (h .its-number ∙ sym (k .its-number), e .1, e .2, h .its-answer ∙ sym (k .its-answer))
 
 pub jk-write-single : {payload overhead : List ℕ} {check : ℕ} {out : List ℕ} {r r₁ : ℕ} {o o₁ a a₁ : List ℕ}
     → JkWrite payload overhead check out r o a → JkWrite payload overhead check out r₁ o₁ a₁ → (r ≡ r₁) × (o ≡ o₁) × (a ≡ a₁)
-jk-write-single h k =
-    let e = wrote-single (h .its-writing) (k .its-writing) in (
-      h .its-number ∙ ap (λ x. x .number) (e .0) ∙ sym (k .its-number),
-      e .1,
-      h .its-answer ∙ ap (λ x. pairPlaces (x .number) (x .check)) (e .0) ∙ sym (k .its-answer),
+jk-write-single {payload} {overhead} {check} {out} h k =
+    let e = h .its-number ∙ sym (k .its-number) in (
+      e,
+      wrote-single (h .its-output) (k .its-output) .1,
+      h .its-answer ∙ ap (λ x. pairPlaces x (writing payload overhead check (length out) .check)) e ∙ sym (k .its-answer),
     )
 
 pub jk-start-single : {s s₁ : List ℕ} → JkStart s → JkStart s₁ → s ≡ s₁
@@ -83,7 +81,12 @@ jk-start-single h k = h .its-state ∙ sym (k .its-state)
 
 pub jk-host-single : {state octets : List ℕ} {r r₁ : ℕ} {s s₁ a a₁ : List ℕ}
     → JkHost state octets r s a → JkHost state octets r₁ s₁ a₁ → (r ≡ r₁) × (s ≡ s₁) × (a ≡ a₁)
-jk-host-single h k = (h .its-number ∙ sym (k .its-number), h .its-state ∙ sym (k .its-state), h .its-answer ∙ sym (k .its-answer))
+jk-host-single {state} {octets} h k =
+    let e = h .its-number ∙ sym (k .its-number) in (
+      e,
+      h .its-state ∙ sym (k .its-state),
+      h .its-answer ∙ ap (λ x. pairPlaces x (hosted (stateOf state) octets .entry)) e ∙ sym (k .its-answer),
+    )
 
 pub jk-key-single : {state : List ℕ} {position r r₁ : ℕ} {s s₁ : List ℕ}
     → JkKey state position r s → JkKey state position r₁ s₁ → (r ≡ r₁) × (s ≡ s₁)
