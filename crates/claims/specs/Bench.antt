@@ -1,22 +1,20 @@
--- The bench cases that go to proof, as one list under one claim.
+-- The bench cases that go to proof, as one list under one claim (KIT §12).
 use Prim.Native.Nat.{ℕ, _+_, _-_, _*_, _^_}
-use mathlib.Core.Path.{_≡_, refl}
-use mathlib.Core.Bool.{Bool, true, _&&_, cond}
+use mathlib.Core.Path.{_≡_}
+use mathlib.Core.Bool.{Bool, true, _&&_}
 use mathlib.Core.List.{List, [], _∷_}
 use lib.Dec.{eqb}
-use Rattle.line.specs.Bit.{bitAt}
-use Rattle.line.specs.Tab.{tab, tabFrom, sum}
-use Rattle.crc.specs.Remainder.{step, after, check}
-use Rattle.e1.specs.Block.{blockBit, blockBits, blockCheck}
+use Rattle.base.specs.Choice.{if_then_else_}
+use Rattle.base.specs.Tab.{tab, sum}
+use Rattle.e1.specs.Block.{blockCheck}
 use Rattle.e1.specs.Frame.{evenSlot0, oddSlot0}
 use Rattle.exchange.specs.Mapping.{entryAt}
-use Rattle.exchange.specs.Machine.{startState, between, outside, locked, unstaged, hostNumber, hostAfter}
-use Rattle.exchange.specs.Runs as runs
-use Rattle.claims.specs.Demand1.{among}
-use Rattle.exchange.specs.Runs.{Call, host, key, boundary}
+use Rattle.exchange.specs.Machine.{startState}
+use Rattle.base.specs.Answer.{among}
+use Rattle.exchange.specs.Runs.{Call, host, key, boundary, afterRun}
 
--- A case: the places of a block's bits that are 1, and its check; an octet, and what it is; a run from the start, a slot, and its live
--- entry then.
+-- A case: the places of a block's bits that are 1, and its check; an octet, and what it is; a run from the start, a
+-- slot, and its live entry then.
 pub data Case : Type 0 where
   ones : List ℕ → ℕ → Case
   octet : ℕ → ℕ → Case
@@ -24,19 +22,19 @@ pub data Case : Type 0 where
 
 -- the octets of a block with ones at these places alone
 unfoldable pub blockOf : List ℕ → List ℕ
-blockOf places = tab 256 (λ i. sum 8 (λ j. cond (among (8 * i + j) places) (2 ^ (7 - j)) 0))
+blockOf places = tab 256 (λ i. sum 8 (λ j. if among (8 * i + j) places then 2 ^ (7 - j) else 0))
 
 unfoldable pub holds : Case → Bool
 holds (ones places c) = eqb (blockCheck (blockOf places) 0) c
 holds (octet x y) = eqb x y
-holds (run calls slot entry) = eqb (entryAt (runs.after startState calls .live) slot) entry
+holds (run calls slot entry) = eqb (entryAt (afterRun startState calls .live) slot) entry
 
 abbrev pub allHold : List Case → Bool
 allHold [] = true
 allHold (c ∷ cs) = holds c && allHold cs
 
-abbrev pub stage-5-9 : Call
-stage-5-9 = host (1 ∷ 5 ∷ 9 ∷ 0 ∷ [])
+abbrev pub stage59 : Call
+stage59 = host (1 ∷ 5 ∷ 9 ∷ 0 ∷ [])
 
 abbrev pub commit : Call
 commit = host (2 ∷ 0 ∷ 0 ∷ 0 ∷ [])
@@ -63,12 +61,10 @@ cases =
     ∷ octet (oddSlot0 0 31) 95
     ∷ octet (oddSlot0 0 63) 127
     -- 7
-    ∷ run (key 1 ∷ stage-5-9 ∷ commit ∷ key 0 ∷ boundary ∷ key 1 ∷ []) 5 5
+    ∷ run (key 1 ∷ stage59 ∷ commit ∷ key 0 ∷ boundary ∷ key 1 ∷ []) 5 5
     -- 8
-    ∷ run (key 1 ∷ stage-5-9 ∷ commit ∷ boundary ∷ key 0 ∷ []) 5 9
+    ∷ run (key 1 ∷ stage59 ∷ commit ∷ boundary ∷ key 0 ∷ []) 5 9
     ∷ []
 
-pub bench : allHold cases ≡ true
-unfolding cases holds blockOf blockCheck blockBits blockBit check after step bitAt tabFrom sum runs.after runs.step hostNumber hostAfter between outside
-    locked unstaged
-bench = refl
+abbrev pub Bench : Type 0
+Bench = allHold cases ≡ true

@@ -1,7 +1,9 @@
 pub mod Demand1
-pub mod Clean
 pub mod Demand2
-pub mod Seam
 pub mod Demand3
-pub mod Bench
+pub mod Counts
+pub mod Accepts
+pub mod Interface
 pub mod Single
+pub mod Bench
+pub mod Promises

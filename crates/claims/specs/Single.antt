@@ -1,18 +1,17 @@
--- Nothing is left open: any two results that an entry's contract admits are equal, with what they leave in every lent octet.
+-- Nothing is left open: any two results that an entry's contract admits are equal, with what they leave in every lent
+-- octet. The entries are those of `read`, `write` and `exchange`, and the seven functions of the C interface over them.
 use Prim.Native.Nat.{ℕ}
-use mathlib.Core.Path.{_≡_, sym, _∙_}
+use mathlib.Core.Path.{_≡_}
 use mathlib.Core.List.{List}
 use Rattle.read.specs.Entry.{Read}
-use Rattle.read.specs.EntryLaws.{read-single}
 use Rattle.read.specs.declared.Reading.{Reading}
 use Rattle.write.specs.Entry.{Wrote}
-use Rattle.write.specs.Calls.{wrote-single}
 use Rattle.write.specs.declared.Written.{Written}
 use Rattle.exchange.specs.Mapping.{Mapped}
-use Rattle.exchange.specs.MapLaws.{mapped-single}
-use Rattle.exchange.specs.Machine.{startState, hosted, keyed, bounded}
+use Rattle.exchange.specs.Machine.{startState, hosted, keyed, crossed}
 use Rattle.exchange.specs.declared.State.{State}
 use Rattle.exchange.specs.declared.Answered.{Answered}
+use Rattle.jikhvanto.specs.Calls.{JkRead, JkWrite, JkStart, JkHost, JkKey, JkBoundary, JkMap}
 
 pub record Single : Type 0 where
   pub read : (s payload slot0 : List ℕ) (r r' : Reading) (p p' o o' : List ℕ)
@@ -24,16 +23,19 @@ pub record Single : Type 0 where
   pub start : (s s' : State) → s ≡ startState → s' ≡ startState → s ≡ s'
   pub host : (s : State) (octets : List ℕ) (r r' : Answered) → r ≡ hosted s octets → r' ≡ hosted s octets → r ≡ r'
   pub key : (s : State) (position : ℕ) (r r' : Answered) → r ≡ keyed s position → r' ≡ keyed s position → r ≡ r'
-  pub boundary : (s : State) (r r' : Answered) → r ≡ bounded s → r' ≡ bounded s → r ≡ r'
-
-pub single : Single
-single =
-    record {
-      read = read-single;
-      write = λ p o c out r r' x x' h h'. wrote-single h h';
-      map-payload = mapped-single;
-      start = λ s s' e e'. e ∙ sym e';
-      host = λ s octets r r' e e'. e ∙ sym e';
-      key = λ s position r r' e e'. e ∙ sym e';
-      boundary = λ s r r' e e'. e ∙ sym e';
-    }
+  pub boundary : (s : State) (r r' : Answered) → r ≡ crossed s → r' ≡ crossed s → r ≡ r'
+  pub jk-read : (image payload slot0 : List ℕ) (r r' : ℕ) (p p' o o' a a' : List ℕ)
+      → JkRead image payload slot0 r p o a → JkRead image payload slot0 r' p' o' a'
+      → (r ≡ r') × (p ≡ p') × (o ≡ o') × (a ≡ a')
+  pub jk-write : (payload overhead : List ℕ) (check : ℕ) (out : List ℕ) (r r' : ℕ) (x x' a a' : List ℕ)
+      → JkWrite payload overhead check out r x a → JkWrite payload overhead check out r' x' a'
+      → (r ≡ r') × (x ≡ x') × (a ≡ a')
+  pub jk-start : (s s' : List ℕ) → JkStart s → JkStart s' → s ≡ s'
+  pub jk-host : (state octets : List ℕ) (r r' : ℕ) (s s' a a' : List ℕ)
+      → JkHost state octets r s a → JkHost state octets r' s' a' → (r ≡ r') × (s ≡ s') × (a ≡ a')
+  pub jk-key : (state : List ℕ) (position r r' : ℕ) (s s' : List ℕ)
+      → JkKey state position r s → JkKey state position r' s' → (r ≡ r') × (s ≡ s')
+  pub jk-boundary : (state : List ℕ) (r r' : ℕ) (s s' : List ℕ) → JkBoundary state r s → JkBoundary state r' s'
+      → (r ≡ r') × (s ≡ s')
+  pub jk-map : (state payload out : List ℕ) (r r' : ℕ) (x x' : List ℕ)
+      → JkMap state payload out r x → JkMap state payload out r' x' → (r ≡ r') × (x ≡ x')

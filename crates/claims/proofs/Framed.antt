@@ -10,19 +10,19 @@ use borrow.Author.Tests.{eq-eqb, le-leb, lt-ltb, le-ltb}
 use lib.Dec.{eqb, leb, ltb, lit<}
 use lib.ListN.{length, getD}
 use Rattle.line.specs.Bit.{bitAt}
-use Rattle.line.specs.Tab.{first, least, sum}
-use Rattle.line.specs.TabLaws.{some-first, some-least, none-least, at-all, sum-none, sum-ext}
-use Rattle.e1.specs.Frame.{frame, wordAt, signal}
+use Rattle.base.specs.Tab.{first, least, sum}
+use Rattle.base.proofs.TabLaws.{some-first, some-least, none-least, at-all, sum-none, sum-ext}
+use Rattle.e1.specs.Frame.{frameAt, wordAt, signal}
 use Rattle.e1.specs.Block.{agrees}
 use Rattle.align.specs.Place.{basic, mark, signalAt, pairAt, withPlace, standing, firstStanding}
-use Rattle.read.specs.Reading.{whole, wrong, threeWrong, loss, wordErrors, compared, clean, errored, zerosE, farEnd}
+use Rattle.read.specs.Reading.{whole, wrong, threeWrong, loss, wordErrors, compared, agreesIn, errored, zerosE, farEnd}
 
 -- a line of n multiframes, its first bit that of a frame 0
 pub record Framed (s : List ℕ) (n : ℕ) : Type 0 where
   pub long : length s ≡ 512 * n
-  pub word : (f : ℕ) → f < 8 * n → wordAt s (frame 0 (2 * f)) ≡ true
-  pub bit-2 : (f : ℕ) → f < 8 * n → bitAt s (frame 0 (2 * f + 1) + 1) ≡ 1
-  pub signals : (m i : ℕ) → m < n → i < 6 → bitAt s (frame 0 (16 * m + (2 * i + 1))) ≡ getD signal i 0
+  pub word : (f : ℕ) → f < 8 * n → wordAt s (frameAt 0 (2 * f)) ≡ true
+  pub bit-2 : (f : ℕ) → f < 8 * n → bitAt s (frameAt 0 (2 * f + 1) + 1) ≡ 1
+  pub signals : (m i : ℕ) → m < n → i < 6 → bitAt s (frameAt 0 (16 * m + (2 * i + 1))) ≡ getD signal i 0
   pub agree : (b : ℕ) → b + 1 < 2 * n → agrees s (2048 * b) ≡ true
 
 all-three : (a b c : Bool) → a ≡ true → b ≡ true → c ≡ true → a && (b && c) ≡ true
@@ -34,7 +34,11 @@ last-false true false c d e = refl
 last-false true true false d e = refl
 last-false true true true d e = e
 
-stood : (a b : Bool) (o : Option ℕ) → a ≡ true → b ≡ true → o ≡ some 0 → cond (a && b) (withPlace 0 o) none ≡ some (record { place = 0; k = 0 })
+stood : (a b : Bool) (o : Option ℕ) → a ≡ true → b ≡ true → o ≡ some 0 → cond (a && b) (withPlace 0 o) none ≡ some (record {
+  place =
+      0;
+  k = 0;
+})
 stood a b o p q r = rw (p, q, r)
 
 counted : (a b : Bool) (x : ℕ) → a ≡ true → b ≡ true → cond (a && b) x 0 ≡ x
@@ -46,7 +50,7 @@ module _ (s : List ℕ) (n : ℕ) (h : Framed s n) where
   signal-at m l =
       at-all 6 (λ i. eqb (mark s 0 (8 * m + i)) (getD signal i 0))
       (λ i k.
-      let p : 0 + 256 + 512 * (8 * m + i) ≡ frame 0 (16 * m + (2 * i + 1)) = omega arith in
+      let p : 0 + 256 + 512 * (8 * m + i) ≡ frameAt 0 (16 * m + (2 * i + 1)) = omega arith in
       eq-eqb (mark s 0 (8 * m + i)) (getD signal i 0) (ap (bitAt s) p ∙ h .signals m i l k))
 
   pair-at : 4 ≤ n → pairAt s 0 0 ≡ true
@@ -89,12 +93,13 @@ module _ (s : List ℕ) (n : ℕ) (h : Framed s n) where
   unfolding wordErrors
   no-word-errors = sum-none (8 * n) (λ i. cond (wrong s 0 i) 1 0) (λ i l. ap (λ b. cond b 1 0) (never-wrong i l))
 
-  each-clean : (b : ℕ) → b < compared n → clean s 0 b ≡ true
+  each-clean : (b : ℕ) → b < compared n → agreesIn s 0 b ≡ true
   each-clean b l = ap (agrees s) (zero-add (2048 * b)) ∙ h .agree b (omega arith)
 
   pub none-errored : errored s 0 n ≡ 0
   unfolding errored
-  none-errored = sum-none (compared n) (λ b. cond (not (clean s 0 b)) 1 0) (λ b l. ap (λ c. cond (not c) 1 0) (each-clean b l))
+  none-errored =
+      sum-none (compared n) (λ b. cond (not (agreesIn s 0 b)) 1 0) (λ b l. ap (λ c. cond (not c) 1 0) (each-clean b l))
 
   -- every E bit that is 0 counts, but those of the last multiframe
   pub far-end-all : farEnd s 0 n ≡ sum (n - 1) (zerosE s 0)
@@ -102,15 +107,15 @@ module _ (s : List ℕ) (n : ℕ) (h : Framed s n) where
   far-end-all = go n refl
     where
       e-bits : ℕ → ℕ
-      e-bits m = cond (ltb (2 * m + 1) (compared n) && clean s 0 (2 * m + 1)) (zerosE s 0 m) 0
+      e-bits m = cond (ltb (2 * m + 1) (compared n) && agreesIn s 0 (2 * m + 1)) (zerosE s 0 m) 0
 
       go : (k : ℕ) → n ≡ k → sum k e-bits ≡ sum (k - 1) (zerosE s 0)
       go zero e = refl
       go (suc k) e =
           let one : suc k - 1 ≡ k = omega arith in
-          let last : e-bits k ≡ 0 = ap (λ b. cond (b && clean s 0 (2 * k + 1)) (zerosE s 0 k) 0) (le-ltb (2 * k + 1) (compared n) (omega arith)) in
+          let last : e-bits k ≡ 0 = ap (λ b. cond (b && agreesIn s 0 (2 * k + 1)) (zerosE s 0 k) 0) (le-ltb (2 * k + 1) (compared n) (omega arith)) in
           let rest : sum k e-bits ≡ sum k (zerosE s 0)
           = sum-ext k e-bits (zerosE s 0)
-          (λ m l. counted (ltb (2 * m + 1) (compared n)) (clean s 0 (2 * m + 1)) (zerosE s 0 m)
+          (λ m l. counted (ltb (2 * m + 1) (compared n)) (agreesIn s 0 (2 * m + 1)) (zerosE s 0 m)
           (lt-ltb (2 * m + 1) (compared n) (omega arith)) (each-clean (2 * m + 1) (omega arith))) in
           ap (λ x. sum k e-bits + x) last ∙ add-zero (sum k e-bits) ∙ rest ∙ ap (λ j. sum j (zerosE s 0)) (sym one)

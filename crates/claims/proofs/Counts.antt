@@ -1,0 +1,188 @@
+-- The proof of Counts.
+use Prim.Native.Nat.{ℕ, zero, suc, _+_, _-_, _*_, _/_, _%_, _≤_, _<_}
+use mathlib.Core.Path.{_≡_, refl, sym, ap, _∙_}
+use mathlib.Core.Bool.{Bool, true, false, cond, _&&_, not, and-eq-true-iff, true≢false}
+use mathlib.Core.List.{List}
+use mathlib.Core.Logic.{_↔_, _≢_}
+use native.Mathlib.Decide.{ℕ-discrete, decLt}
+use native.Mathlib.Nat.{add-zero}
+use native.Mathlib.Omega.{arith}
+use borrow.Author.Tests.{lt-ltb, le-ltb, ltb-true, eqb-true, eq-eqb, ne-eqb}
+use lib.Dec.{eqb, ltb}
+use Rattle.base.specs.Choice.{if_then_else_}
+use Rattle.base.specs.Tab.{sum, count}
+use Rattle.base.proofs.TabLaws.{sum-pairs}
+use Rattle.line.specs.Bit.{bitAt}
+use Rattle.line.proofs.BitLaws.{bit-lt}
+use Rattle.crc.proofs.Laws.{same}
+use Rattle.e1.specs.Frame.{frameAt}
+use Rattle.e1.specs.Block.{agrees}
+use Rattle.read.specs.Entry.{accept, startIn, usedIn}
+use Rattle.read.specs.Reading.{wrong, wordErrors, compared, agreesIn, errored, zerosE, farEnd}
+use Rattle.read.proofs.EntryLaws.{read-accepted}
+use Rattle.claims.specs.Counts.{Counted, Agrees, WrongWord, FarError, Counts}
+
+-- What is counted
+
+module _ {n k : ℕ} {P : ℕ → Type 0} (c : Counted n k P) where
+  -- n has it too: it is the last
+  one-more : P n → Counted (suc n) (k + 1) P
+  one-more p = record { at = at; rising = rising; each = each; all = all }
+    where
+      at : ℕ → ℕ
+      at i = if ltb i k then c .at i else n
+
+      before : (i : ℕ) → i < k → at i ≡ c .at i
+      before i h = rw (lt-ltb i k h)
+
+      last : (i : ℕ) → k ≤ i → at i ≡ n
+      last i h = rw (le-ltb i k h)
+
+      rising : (i : ℕ) → i + 1 < k + 1 → at i < at (i + 1)
+      rising i h = let b = before i (omega arith) in elim (decLt (i + 1) k) [
+        | yes l ↦ omega (arith, before (i + 1) l, c .rising i l)
+        | no l ↦ omega (arith, last (i + 1) (omega arith), c .each i (omega arith) .0)
+      ]
+
+      each : (i : ℕ) → i < k + 1 → (at i < suc n) × P (at i)
+      each i h = elim (decLt i k) [
+        | yes l ↦ (let (m, q) = c .each i l in rw (before i l) (omega arith, q))
+        | no l ↦ rw (last i (omega arith)) (omega arith, p)
+      ]
+
+      all : (b : ℕ) → b < suc n → P b → (i : ℕ) × (i < k + 1) × (at i ≡ b)
+      all b h q = elim (decLt b n) [
+        | yes l ↦ (let (i, m, e) = c .all b l q in (i, omega arith, before i m ∙ e))
+        | no l ↦ (k, omega arith, last k (omega arith) ∙ omega arith)
+      ]
+
+  -- n does not have it
+  no-more : (P n → ⊥) → Counted (suc n) k P
+  no-more lacks = record { at = c .at; rising = c .rising; each = each; all = all }
+    where
+      each : (i : ℕ) → i < k → (c .at i < suc n) × P (c .at i)
+      each i h = let (l, p) = c .each i h in (omega arith, p)
+
+      all : (b : ℕ) → b < suc n → P b → (i : ℕ) × (i < k) × (c .at i ≡ b)
+      all b h p = elim (ℕ-discrete b n) [ yes e ↦ absurd (lacks (rw e at p)) | no e ↦ c .all b (omega arith) p ]
+
+  -- the same by another name
+  named : {Q : ℕ → Type 0} → ((i : ℕ) → P i ↔ Q i) → Counted n k Q
+  named w =
+      record {
+        at = c .at;
+        rising = c .rising;
+        each = λ i h. let (l, p) = c .each i h in (l, w (c .at i) .0 p);
+        all = λ b h q. c .all b h (w b .1 q);
+      }
+
+  -- it counts to 0 exactly where none has it
+  none-has : k ≡ 0 ↔ ((b : ℕ) → b < n → P b → ⊥)
+  none-has = (λ z b h p. let (i, l, e) = c .all b h p in omega arith, λ none. go none (ℕ-discrete k 0))
+    where
+      go : ((b : ℕ) → b < n → P b → ⊥) → Dec (k ≡ 0) → k ≡ 0
+      go none (yes z) = z
+      go none (no z) = let (l, p) = c .each 0 (omega arith) in absurd (none (c .at 0) l p)
+
+-- what passes a test
+counted : (n : ℕ) (t : ℕ → Bool) → Counted n (count n t) (λ i. t i ≡ true)
+unfolding sum
+counted zero t =
+    record {
+      at = λ i. i;
+      rising = λ i h. absurd (omega arith);
+      each = λ i h. absurd (omega arith);
+      all = λ b h. absurd (omega arith);
+    }
+counted (suc n) t = go (counted n t) (t n) refl
+  where
+    go : {k : ℕ} → Counted n k (λ i. t i ≡ true) → (b : Bool) → t n ≡ b
+        → Counted (suc n) (k + cond b 1 0) (λ i. t i ≡ true)
+    go c true e = one-more c e
+    go c false e = rw add-zero (no-more c (λ k. true≢false (sym k ∙ e)))
+
+-- The counts of g multiframes from q on
+
+not-equal : (a b : ℕ) → not (eqb a b) ≡ true ↔ (a ≢ b)
+not-equal a b = (λ e z. true≢false (sym e ∙ ap not (eq-eqb a b z)), λ n. ap not (ne-eqb a b n))
+
+-- one zero where the bit is 0, none where it is 1
+is-zero : (x : ℕ) → x < 2 → 1 - x ≡ cond (eqb x 0) 1 0
+is-zero zero h = refl
+is-zero (suc zero) h = refl
+is-zero (suc (suc x)) h = absurd (omega arith)
+
+module _ (s : List ℕ) (q g : ℕ) where
+  wrong-words : Counted (8 * g) (wordErrors s q g) (WrongWord s q)
+  unfolding wordErrors wrong
+  wrong-words = named (counted (8 * g) (wrong s q)) (λ i. not-equal _ 27)
+
+  differing : Counted (compared g) (errored s q g) (λ b. Agrees s q b → ⊥)
+  unfolding errored agrees
+  differing = named (counted (compared g) (λ b. not (agreesIn s q b))) (λ b. not-equal _ _)
+
+  none-differs : errored s q g ≡ 0 ↔ ((b : ℕ) → b + 1 < 2 * g → Agrees s q b)
+  none-differs = (
+    λ e b h. same _ _ (none-has differing .0 e b (omega arith)),
+    λ a. none-has differing .1 (λ b h n. n (a b (omega arith))),
+  )
+
+  -- the second block of multiframe m was compared, and agreed
+  abbrev second : ℕ → Bool
+  second m = ltb (2 * m + 1) (compared g) && agreesIn s q (2 * m + 1)
+
+  -- E bit e
+  abbrev bitE : ℕ → ℕ
+  bitE e = bitAt s (frameAt q (16 * (e / 2) + 13 + 2 * (e % 2)))
+
+  farError : ℕ → Bool
+  farError e = second (e / 2) && eqb (bitE e) 0
+
+  far-error : (e : ℕ) → farError e ≡ true ↔ FarError s q g e
+  unfolding farError agrees
+  far-error e = (there, back)
+    where
+      b : ℕ
+      b = 2 * (e / 2) + 1
+
+      there : farError e ≡ true → FarError s q g e
+      there h =
+          let (w, z) = and-eq-true-iff (second (e / 2)) (eqb (bitE e) 0) .0 h in
+          let (l, a) = and-eq-true-iff (ltb b (compared g)) (agreesIn s q b) .0 w in
+          record { zero = eqb-true _ _ z; compared = omega (arith, ltb-true b (compared g) l); agreed = eqb-true _ _ a }
+
+      back : FarError s q g e → farError e ≡ true
+      back f = rw (lt-ltb b (compared g) (omega arith), eq-eqb _ _ (f .agreed), eq-eqb _ _ (f .zero))
+
+  -- those of one multiframe
+  two-errors : (m : ℕ) → cond (second m) (zerosE s q m) 0
+      ≡ cond (farError (2 * m)) 1 0 + cond (farError (2 * m + 1)) 1 0
+  unfolding farError
+  two-errors m =
+      let a : 2 * m / 2 ≡ m = omega arith in
+      let b : (2 * m + 1) / 2 ≡ m = omega arith in
+      let c : 16 * m + 13 + 2 * (2 * m % 2) ≡ 16 * m + 13 = omega arith in
+      let d : 16 * m + 13 + 2 * ((2 * m + 1) % 2) ≡ 16 * m + 15 = omega arith in
+      rw (a, b, c, d) (go (second m) (bit-lt s (frameAt q (16 * m + 13))) (bit-lt s (frameAt q (16 * m + 15))))
+    where
+      go : (t : Bool) {x y : ℕ} → x < 2 → y < 2
+          → cond t ((1 - x) + (1 - y)) 0 ≡ cond (t && eqb x 0) 1 0 + cond (t && eqb y 0) 1 0
+      go true {x} {y} h k = omega (arith, is-zero x h, is-zero y k)
+      go false h k = refl
+
+  far-counted : farEnd s q g ≡ count (2 * g) farError
+  unfolding farEnd
+  far-counted = sum-pairs g (λ m. cond (second m) (zerosE s q m) 0) (λ e. cond (farError e) 1 0) two-errors
+
+  far-errors : Counted (2 * g) (farEnd s q g) (FarError s q g)
+  far-errors = rw far-counted (named (counted (2 * g) farError) far-error)
+
+pub counts : Counts
+unfolding accept
+counts =
+    record {
+      words = λ s a b r p o h z. rw (read-accepted s a b r p o h z) (wrong-words s (startIn s) (usedIn s));
+      errored = λ s a b r p o h z. rw (read-accepted s a b r p o h z) (differing s (startIn s) (usedIn s));
+      farend = λ s a b r p o h z. rw (read-accepted s a b r p o h z) (far-errors s (startIn s) (usedIn s));
+      none-errored = λ s a b r p o h z. rw (read-accepted s a b r p o h z) (none-differs s (startIn s) (usedIn s));
+    }

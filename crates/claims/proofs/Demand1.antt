@@ -1,0 +1,85 @@
+-- The proof of Demand1.
+use Prim.Native.Nat.{ℕ, _*_, _≤_}
+use mathlib.Core.Path.{_≡_, refl, sym, ap, _∙_}
+use mathlib.Core.List.{List, [], _∷_, _++_}
+use native.Mathlib.Omega.{arith}
+use borrow.Author.Tests.{le-leb}
+use lib.ListN.{length, drop}
+use lib.Seq.{drop-at}
+use Rattle.base.specs.Answer.{accepted}
+use Rattle.base.proofs.AnswerLaws.{accepted-so, first-listed}
+use Rattle.e1.specs.Payload.{multiframes}
+use Rattle.read.specs.Entry as reads
+use Rattle.read.specs.Entry.{startIn, usedIn}
+use Rattle.read.specs.Reading.{payloadOf, slot0Of}
+use Rattle.read.proofs.Laws.{payload-length, slot0-length}
+use Rattle.read.proofs.EntryLaws.{read-number, read-accepted, read-refused}
+use Rattle.read.specs.declared.Reading.{Reading}
+use Rattle.write.specs.Entry as writes
+use Rattle.write.specs.Writing.{written}
+use Rattle.write.proofs.Laws.{length-written}
+use Rattle.write.proofs.Calls.{wrote-number, wrote-refused}
+use Rattle.exchange.specs.declared.State.{State}
+use Rattle.exchange.specs.Mapping.{entryAt, mappedPayload, mapped}
+use Rattle.exchange.specs.Machine.{accept, hosted, hostRefusal, hostAfter, hostEntry, between, outside, locked}
+use Rattle.exchange.specs.Machine.{unstaged}
+use Rattle.exchange.specs.Runs.{afterCall}
+use Rattle.exchange.proofs.Laws as laws
+use Rattle.exchange.proofs.RunLaws as runs
+use Rattle.exchange.proofs.MapLaws.{mapped-length}
+use Rattle.claims.specs.Demand1.{Demand1}
+
+-- an output that an accepted call fills by l is kept behind it
+behind : {n : ℕ} (l out : List ℕ) {out' : List ℕ} (k : ℕ) → out' ≡ accepted n (l ++ drop k out) out → n ≡ 0
+    → length l ≡ k → drop k out' ≡ drop k out
+behind {n} l out k e z h = ap (drop k) (e ∙ accepted-so n (l ++ drop k out) out z) ∙ drop-at l (drop k out) k h
+
+kind-3 : (s : State) (a b h : ℕ) → 1 ≤ a → a ≤ 31 → hosted s (3 ∷ a ∷ b ∷ h ∷ []) ≡ accept s (entryAt (s .live) a)
+unfolding hostRefusal hostAfter hostEntry between outside locked unstaged
+kind-3 s a b h l u = rw (le-leb 1 a l, le-leb a 31 u)
+
+pub demand-1 : Demand1
+unfolding reads.refusal reads.accept writes.refusal mapped afterCall
+demand-1 =
+    record {
+      read-number = λ s payload slot0 r payload' slot0' h.
+          rw (read-number s payload slot0 r payload' slot0' h)
+          (first-listed (reads.refusals s (length payload) (length slot0)));
+      write-number = λ p o c out r out' h. rw (wrote-number h) (first-listed (writes.refusals p o c (length out)));
+      call-number = laws.number-is-listed;
+      read-refused = read-refused;
+      write-refused = λ p o c out r out' n h e. wrote-refused n h e;
+      call-refused = laws.refused-changes-nothing;
+      read-kept = λ s payload slot0 r payload' slot0' h z.
+          let q = startIn s in
+          let g = usedIn s in
+          let a = read-accepted s payload slot0 r payload' slot0' h z in
+          let used : r .used ≡ g = ap (λ (x : Reading). x .used) a in
+          rw used (
+            behind (payloadOf s q g) payload (496 * g) (h .its-payload) z (payload-length s q g),
+            behind (slot0Of s q g) slot0 (16 * g) (h .its-slot0) z (slot0-length s q g),
+          );
+      write-kept = λ p o c out r out' h z.
+          let n = multiframes p in
+          behind (written p o c (2 * n)) out (512 * n) (h .its-out) z (length-written p o c (2 * n) ∙ omega arith);
+      map-kept = λ map payload out r out' h z.
+          behind (mappedPayload map payload) out (length payload) (h .its-out)
+          (sym (h .its-number) ∙ z)
+          (mapped-length map payload);
+      flag = runs.flag-is-last-key;
+      locked-out = λ s cs ds off e.
+          let t = runs.same-after s cs ds off e in (
+            ap (λ (x : State). x .flag) t,
+            ap (λ (x : State). x .live) t,
+            runs.same-heard s cs ds off e,
+            runs.same-later s cs ds off e,
+          );
+      boundary-alone = runs.live-without-boundary;
+      commit-first = runs.live-without-commit;
+      none-survives = runs.live-without-key;
+      all-forgotten = runs.key-off-forgets;
+      any-host = laws.host-number-changes-nothing;
+      no-octet = λ s p out. refl;
+      kind-3 = kind-3;
+      entries = λ cs j. let m = runs.entries-small cs in (m .0 j, m .1 j, m .2 j);
+    }

@@ -1,0 +1,247 @@
+-- Demand 2 holds.
+use Prim.Native.Nat.{ℕ, suc, _+_, _-_, _*_, _%_, _≤_, _<_}
+use mathlib.Core.Path.{_≡_, sym, ap, ap₂, _∙_}
+use mathlib.Core.Bool.{Bool, false, _||_}
+use mathlib.Core.List.{List, _++_}
+use mathlib.Core.Logic.{_↔_, Iff·trans}
+use mathlib.Core.Option.{none}
+use native.Mathlib.Omega.{arith}
+use borrow.Author.Tests.{eqb-true, le-ltb}
+use lib.Dec.{ltb}
+use lib.ListN.{length, getD, take, drop, List·getD-append}
+use lib.Seq.{take-at}
+use Rattle.line.specs.Bit.{bitAt, octetAt}
+use Rattle.base.proofs.TabLaws.{tab-agree, sum-ext}
+use Rattle.base.proofs.AnswerLaws.{accepted-so}
+use Rattle.e1.specs.Frame.{frameAt, slotAt, signal}
+use Rattle.e1.specs.Payload.{indexOf, multiframes}
+use Rattle.align.specs.Stands.{Stands}
+use Rattle.read.specs.Reading.{whole, loss, lostAt, usedOf, slots, payloadOf, slot0Of, wordErrors, compared, errored}
+use Rattle.read.specs.Reading.{zerosE, farEnd}
+use Rattle.read.specs.Entry as reading
+use Rattle.read.specs.Entry.{Read, GoodLength}
+use Rattle.read.proofs.Laws as reads
+use Rattle.read.proofs.EntryLaws.{number-3, accepts, place-is, start-is, read-number, read-accepted, read-place}
+use Rattle.crc.proofs.Division.{check-divides, check-unique}
+use Rattle.align.proofs.Laws.{some-k, none-at-all, finds-at, finds-nothing}
+use Rattle.claims.proofs.Standard.{standard-single}
+use Rattle.claims.specs.Demand2.{Accepted, Standard, zeroEs, ReadBack, Demand2}
+use Rattle.read.specs.declared.Reading.{Reading}
+use Rattle.write.specs.Writing.{carries, written, overheadOf}
+use Rattle.write.specs.Inputs.{Inputs}
+use Rattle.write.proofs.Laws as writes
+use Rattle.write.proofs.Calls.{wrote-check, wrote-line, wrote-accepted, two-calls}
+use Rattle.claims.proofs.Framed as unbroken
+use Rattle.claims.proofs.Framed.{Framed}
+
+-- an accepted call
+module _ (s payload slot0 : List ℕ) (r : Reading) (payload' slot0' : List ℕ) (h : Read s payload slot0 r payload' slot0') (z : r .number ≡ 0) where
+  -- a value of it
+  got {ℓ} : {A : Type ℓ} (f : Reading → A) → f r ≡ f (reading.accept s)
+  got f = ap f (read-accepted s payload slot0 r payload' slot0' h z)
+
+  from : r .start ≡ reading.startIn s
+  unfolding reading.accept
+  from = got (λ x. x .start)
+
+  all : r .whole ≡ reading.wholeIn s
+  unfolding reading.accept
+  all = got (λ x. x .whole)
+
+  upto : r .used ≡ reading.usedIn s
+  unfolding reading.accept
+  upto = got (λ x. x .used)
+
+  front : payload' ≡ payloadOf s (r .start) (r .used) ++ drop (496 * r .used) payload
+  front =
+      h .its-payload ∙ accepted-so (r .number) _ payload z
+      ∙ sym (ap₂ (λ x y. payloadOf s x y ++ drop (496 * y) payload) from upto)
+
+  front-0 : slot0' ≡ slot0Of s (r .start) (r .used) ++ drop (16 * r .used) slot0
+  front-0 =
+      h .its-slot0 ∙ accepted-so (r .number) _ slot0 z
+      ∙ sym (ap₂ (λ x y. slot0Of s x y ++ drop (16 * y) slot0) from upto)
+
+  pub octet-read : (f j : ℕ) → f < 16 * r .used → 1 ≤ j → j ≤ 31
+      → getD payload' (indexOf f j) 0 ≡ octetAt s (slotAt (r .start) f j)
+  octet-read f j l a b =
+      let p = payloadOf s (r .start) (r .used) in
+      ap (λ x. getD x (indexOf f j) 0) front
+      ∙ List·getD-append p (drop (496 * r .used) payload) 0 (indexOf f j) (omega (arith, reads.payload-length s (r .start) (r .used)))
+      ∙ reads.slot-of s (r .start) (16 * r .used) f j l a b
+
+  pub octet-0-read : (f : ℕ) → f < 16 * r .used → getD slot0' f 0 ≡ octetAt s (slotAt (r .start) f 0)
+  octet-0-read f l =
+      let o = slot0Of s (r .start) (r .used) in
+      ap (λ x. getD x f 0) front-0
+      ∙ List·getD-append o (drop (16 * r .used) slot0) 0 f (omega (arith, reads.slot0-length s (r .start) (r .used)))
+      ∙ reads.slot0-of s (r .start) (16 * r .used) f l
+
+  reads-so : Accepted s payload slot0 r payload' slot0'
+  unfolding reading.accept reading.startIn
+  reads-so =
+      let d = read-place s payload slot0 r payload' slot0' h z in
+      record {
+        k = d .0;
+        found = finds-at s (r .place) (d .0) .1 (d .1);
+        first = d .1;
+        start = from;
+        all-whole = all ∙ sym (ap (whole s) from);
+        lost = got (λ x. x .lost) ∙ sym (ap₂ (λ x y. lostAt (loss s x y)) from all);
+        used = upto ∙ sym (ap₂ (λ x y. usedOf (loss s x y) y) from all);
+        words = got (λ x. x .words) ∙ sym (ap₂ (wordErrors s) from upto);
+        compares = got (λ x. x .compared) ∙ sym (ap compared upto);
+        errors = got (λ x. x .errored) ∙ sym (ap₂ (errored s) from upto);
+        far-end = got (λ x. x .farend) ∙ sym (ap₂ (farEnd s) from upto);
+        octet = octet-read;
+        octet-0 = octet-0-read;
+      }
+
+-- the line that is written from p, o and c
+module _ (p o : List ℕ) (c n : ℕ) (g : Inputs p o c n) where
+  abbrev line : List ℕ
+  line = written p o c (2 * n)
+
+  long : length line ≡ 512 * n
+  long = writes.length-written p o c (2 * n) ∙ omega arith
+
+  framed : Framed line n
+  framed =
+      record {
+        long = long;
+        word = writes.word-at g;
+        bit-2 = writes.bit-2-at g;
+        signals = λ m i hm hi.
+            let f : 16 * m + (2 * i + 1) ≡ 2 * (8 * m + i) + 1 = omega arith in
+            let e : (8 * m + i) % 8 ≡ i = omega arith in
+            ap (λ x. bitAt line (frameAt 0 x)) f ∙ writes.signal-at g (8 * m + i) (omega arith) (omega arith) ∙ ap (λ x. getD signal x 0) e;
+        agree = writes.agrees-at g;
+      }
+
+  module _ (octets : (i : ℕ) → getD p i 0 < 256) where
+    standard : 1 ≤ n → Standard line p o c (carries p o c (2 * n)) n
+    unfolding carries
+    standard least =
+        record {
+          long = long;
+          payload = λ f j l a b. writes.payload-at g f j l a b (octets (indexOf f j));
+          word = λ i l. eqb-true _ _ (writes.word-at g i l);
+          first-check = writes.carried-at g 0 (omega arith);
+          check = λ b l.
+              let e : b + 1 ≡ suc b = omega arith in
+              writes.carried-at g (b + 1) l ∙ ap (carries p o c) e ∙ sym (writes.check-at p o c (2 * n) b (omega arith));
+          last-check = writes.last-check g least;
+          signals = writes.signal-at g;
+          e-bit = writes.e-bit-at g;
+          bit-2 = writes.bit-2-at g;
+          spare = writes.spare-at g;
+        }
+
+    module _ (four : 4 ≤ n) (few : n ≤ 16) where
+      start : reading.startIn line ≡ 0
+      start = sym (start-is line (record { place = 0; k = 0 }) (unbroken.stands-at-once line n framed four))
+
+      whole-n : reading.wholeIn line ≡ n
+      whole-n = ap (whole line) start ∙ unbroken.all-whole line n framed
+
+      no-loss : reading.lossIn line ≡ none
+      no-loss = ap₂ (loss line) start whole-n ∙ unbroken.never-lost line n framed
+
+      used-n : reading.usedIn line ≡ n
+      used-n = ap₂ usedOf no-loss whole-n
+
+      neither : (a b : Bool) → a ≡ false → b ≡ false → a || b ≡ false
+      neither a b x y = rw (x, y)
+
+      e-bits : (m : ℕ) → m < n - 1 → zerosE line 0 m ≡ zeroEs o m
+      e-bits m l =
+          let f : 2 * (8 * m + 6) + 1 ≡ 16 * m + 13 = omega arith in
+          let f' : 2 * (8 * m + 7) + 1 ≡ 16 * m + 15 = omega arith in
+          ap₂ (λ x y. (1 - x) + (1 - y))
+          (ap (λ x. bitAt line (frameAt 0 x)) (sym f) ∙ writes.e-bit-at g (8 * m + 6) (omega arith) (omega arith))
+          (ap (λ x. bitAt line (frameAt 0 x)) (sym f') ∙ writes.e-bit-at g (8 * m + 7) (omega arith) (omega arith))
+
+      module _ (payload slot0 : List ℕ) (r : Reading) (payload' slot0' : List ℕ) (room : 496 * n ≤ length payload) (room-0 : 16 * n ≤ length slot0)
+          (h : Read line payload slot0 r payload' slot0') where
+        number : r .number ≡ 0
+        number =
+            read-number line payload slot0 r payload' slot0' h
+            ∙ accepts line (length payload) (length slot0) (record {
+              long =
+                  omega (arith, long);
+              short = omega (arith, long);
+            }) (record { place = 0; k = 0 })
+            (unbroken.stands-at-once line n framed four)
+            (neither (ltb (length payload) (496 * reading.usedIn line)) (ltb (length slot0) (16 * reading.usedIn line))
+            (le-ltb (length payload) (496 * reading.usedIn line) (omega (arith, used-n)))
+            (le-ltb (length slot0) (16 * reading.usedIn line) (omega (arith, used-n))))
+
+        a : Accepted line payload slot0 r payload' slot0'
+        a = reads-so line payload slot0 r payload' slot0' h number
+
+        at-0 : r .start ≡ 0
+        at-0 = from line payload slot0 r payload' slot0' h number ∙ start
+
+        all-n : r .used ≡ n
+        all-n = upto line payload slot0 r payload' slot0' h number ∙ used-n
+
+        value : (f : Reading → ℕ) → f r ≡ f (reading.accept line)
+        value f = got line payload slot0 r payload' slot0' h number f
+
+        reads-clean : ReadBack p o n r payload' slot0'
+        unfolding slots reading.accept
+        reads-clean =
+            record {
+              number = number;
+              place = value (λ x. x .place)
+                  ∙ sym (place-is line (record { place = 0; k = 0 }) (unbroken.stands-at-once line n framed four));
+              start = at-0;
+              whole = all line payload slot0 r payload' slot0' h number ∙ whole-n;
+              used = all-n;
+              lost = value (λ x. x .lost) ∙ ap lostAt no-loss;
+              words = a .words ∙ ap₂ (wordErrors line) at-0 all-n ∙ unbroken.no-word-errors line n framed;
+              compared = a .compares ∙ ap compared all-n;
+              errored = a .errors ∙ ap₂ (errored line) at-0 all-n ∙ unbroken.none-errored line n framed;
+              farend = a .far-end ∙ ap₂ (farEnd line) at-0 all-n ∙ unbroken.far-end-all line n framed ∙ sum-ext (n - 1) (zerosE line 0) (zeroEs o) e-bits;
+              payload = ap (take (496 * n)) (front line payload slot0 r payload' slot0' h number
+                  ∙ ap₂ (λ x y. payloadOf line x y ++ drop (496 * y) payload) at-0 all-n)
+                  ∙ take-at (payloadOf line 0 n) (drop (496 * n) payload) (496 * n) (reads.payload-length line 0 n)
+                  ∙ writes.payload-back g octets;
+              overhead =
+                  tab-agree (8 * n) (λ h. overheadOf h (getD slot0' (2 * h + 1) 0)) (λ h. overheadOf h (octetAt line (slotAt 0 (2 * h + 1) 0)))
+                  (λ i l. ap (overheadOf i) (a .octet-0 (2 * i + 1) (omega (arith, all-n)) ∙ ap (λ x. octetAt line (slotAt x (2 * i + 1) 0)) at-0))
+                  ∙ writes.overhead-back g;
+            }
+
+none-so : (s payload slot0 : List ℕ) (r : Reading) (payload' slot0' : List ℕ) → GoodLength s
+    → Read s payload slot0 r payload' slot0' → r .number ≡ 3 ↔ ((p k : ℕ) → Stands s p k → ⊥)
+none-so s payload slot0 r payload' slot0' good h =
+    let e = read-number s payload slot0 r payload' slot0' h in
+    let w = number-3 s (length payload) (length slot0) good in
+    (λ z. w .0 (sym e ∙ z), λ n. e ∙ w .1 n)
+
+pub demand-2 : Demand2
+demand-2 =
+    record {
+      reads = reads-so;
+      loss = λ s payload slot0 r payload' slot0' h z i l.
+          let a = reads-so s payload slot0 r payload' slot0' h z in
+          let e = reads.lost-at s (r .start) (r .whole) i l in
+          (λ w. e .0 (sym (a .lost) ∙ w), λ w. a .lost ∙ e .1 w);
+      none = none-so;
+      none-at-all = λ s payload slot0 r payload' slot0' good h.
+          Iff·trans (none-so s payload slot0 r payload' slot0' good h) (none-at-all s);
+      some-k = some-k;
+      found-at = finds-at;
+      found-nothing = finds-nothing;
+      writes = λ p o c out r out' octets w z.
+          let a = wrote-accepted w z in
+          rw (wrote-line w z, wrote-check w z) (standard p o c (multiframes p) (a .inputs) octets (a .least));
+      reads-back = λ p o c out w out' octets h z four payload slot0 r payload' slot0' room room-0 d.
+          let a = wrote-accepted h z in
+          reads-clean p o c (multiframes p) (a .inputs) octets four (a .most) payload slot0 r payload' slot0' room room-0 (rw (wrote-line h z) at d);
+      joins = λ p p' o o' c x x' y y' r r' w z w' z'. two-calls w z w' z';
+      standard-single = standard-single;
+      check-divides = check-divides;
+      check-unique = check-unique;
+    }

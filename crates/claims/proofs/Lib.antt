@@ -1,0 +1,12 @@
+pub mod Framed
+pub mod Standard
+pub mod Seam
+pub mod Counts
+pub mod Demand1
+pub mod Demand2
+pub mod Demand3
+pub mod Accepts
+pub mod Interface
+pub mod Single
+pub mod Bench
+pub mod Promises

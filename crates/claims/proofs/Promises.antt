@@ -1,0 +1,23 @@
+-- All that is promised holds.
+use Rattle.claims.specs.Promises.{Promises}
+use Rattle.claims.proofs.Demand1.{demand-1}
+use Rattle.claims.proofs.Demand2.{demand-2}
+use Rattle.claims.proofs.Demand3.{demand-3}
+use Rattle.claims.proofs.Counts.{counts}
+use Rattle.claims.proofs.Accepts.{accepts}
+use Rattle.claims.proofs.Interface.{interface}
+use Rattle.claims.proofs.Single.{single}
+use Rattle.claims.proofs.Bench.{bench}
+
+pub promises : Promises
+promises =
+    record {
+      demand-1 = demand-1;
+      demand-2 = demand-2;
+      demand-3 = demand-3;
+      counts = counts;
+      accepts = accepts;
+      interface = interface;
+      single = single;
+      bench = bench;
+    }

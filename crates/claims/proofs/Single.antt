@@ -1,0 +1,27 @@
+-- The proof of Single.
+use mathlib.Core.Path.{sym, _∙_}
+use Rattle.read.proofs.EntryLaws.{read-single}
+use Rattle.write.proofs.Calls.{wrote-single}
+use Rattle.exchange.proofs.MapLaws.{mapped-single}
+use Rattle.jikhvanto.proofs.Laws.{jk-read-single, jk-write-single, jk-start-single, jk-host-single, jk-key-single}
+use Rattle.jikhvanto.proofs.Laws.{jk-boundary-single, jk-map-single}
+use Rattle.claims.specs.Single.{Single}
+
+pub single : Single
+single =
+    record {
+      read = read-single;
+      write = λ p o c out r r' x x' h h'. wrote-single h h';
+      map-payload = mapped-single;
+      start = λ s s' e e'. e ∙ sym e';
+      host = λ s octets r r' e e'. e ∙ sym e';
+      key = λ s position r r' e e'. e ∙ sym e';
+      boundary = λ s r r' e e'. e ∙ sym e';
+      jk-read = λ image payload slot0 r r' p p' o o' a a' h h'. jk-read-single h h';
+      jk-write = λ payload overhead check out r r' x x' a a' h h'. jk-write-single h h';
+      jk-start = λ s s' h h'. jk-start-single h h';
+      jk-host = λ state octets r r' s s' a a' h h'. jk-host-single h h';
+      jk-key = λ state position r r' s s' h h'. jk-key-single h h';
+      jk-boundary = λ state r r' s s' h h'. jk-boundary-single h h';
+      jk-map = λ state payload out r r' x x' h h'. jk-map-single h h';
+    }

@@ -1,0 +1,61 @@
+-- Which inputs each entry accepts, both ways (KIT §8).
+use Prim.Native.Nat.{ℕ, _*_, _≤_, _<_}
+use mathlib.Core.Path.{_≡_}
+use mathlib.Core.Bool.{true}
+use mathlib.Core.List.{List}
+use mathlib.Core.Logic.{_↔_, _⊎_}
+use lib.ListN.{length, getD}
+use Rattle.align.specs.Stands.{Stands}
+use Rattle.read.specs.Entry.{GoodLength, usedIn}
+use Rattle.read.specs.Entry as reads
+use Rattle.write.specs.Entry.{overheadLimit}
+use Rattle.write.specs.Entry as writes
+use Rattle.exchange.specs.declared.State.{State}
+use Rattle.exchange.specs.Mapping.{mapRefusal}
+use Rattle.exchange.specs.Machine.{kindOf, aOf, bOf, hostRefusal, keyRefusal}
+
+-- an image s, with a and b octets of room in the two outputs
+pub record ToRead (s : List ℕ) (a b : ℕ) : Type 0 where
+  pub good : GoodLength s
+  pub p : ℕ
+  pub k : ℕ
+  pub stands : Stands s p k
+  pub payload : 496 * usedIn s ≤ a
+  pub slot0 : 16 * usedIn s ≤ b
+
+-- a payload p, an overhead o and a check c, with m octets of room
+pub record ToWrite (p o : List ℕ) (c m : ℕ) : Type 0 where
+  pub n : ℕ
+  pub least : 1 ≤ n
+  pub most : n ≤ 16
+  pub payload : length p ≡ 496 * n
+  pub overhead : length o ≡ 8 * n
+  pub limited : (h : ℕ) → h < 8 * n → getD o h 0 < overheadLimit h
+  pub check : c ≤ 15
+  pub room : 512 * n ≤ m
+
+-- a record r, in the state s
+pub record ToHost (s : State) (r : List ℕ) : Type 0 where
+  pub four : length r ≡ 4
+  pub least : 1 ≤ kindOf r
+  pub most : kindOf r ≤ 4
+  pub slot : (kindOf r ≡ 1) ⊎ (kindOf r ≡ 3) → (1 ≤ aOf r) × (aOf r ≤ 31)
+  pub entry : kindOf r ≡ 1 → bOf r ≤ 31
+  pub unlocked : (kindOf r ≡ 3 → ⊥) → s .flag ≡ true
+  pub staged : (kindOf r ≡ 2) ⊎ (kindOf r ≡ 4) → s .staging ≡ true
+
+-- a payload and an output
+pub record ToMap (payload out : List ℕ) : Type 0 where
+  pub n : ℕ
+  pub least : 1 ≤ n
+  pub most : n ≤ 16
+  pub sized : length payload ≡ 496 * n
+  pub room : length payload ≤ length out
+
+-- the number is 0 exactly for these; a boundary is never refused
+pub record Accepts : Type 0 where
+  pub read : (s : List ℕ) (a b : ℕ) → reads.refusal s a b ≡ 0 ↔ ToRead s a b
+  pub write : (p o : List ℕ) (c m : ℕ) → writes.refusal p o c m ≡ 0 ↔ ToWrite p o c m
+  pub host : (s : State) (r : List ℕ) → hostRefusal s r ≡ 0 ↔ ToHost s r
+  pub key : (position : ℕ) → keyRefusal position ≡ 0 ↔ (position ≡ 0) ⊎ (position ≡ 1)
+  pub map : (payload out : List ℕ) → mapRefusal payload out ≡ 0 ↔ ToMap payload out

@@ -1,0 +1,47 @@
+-- The counts of an accepted reading, told off on the line itself: what is counted can be numbered from the least up,
+-- and nothing is left out.
+use Prim.Native.Nat.{ℕ, _+_, _*_, _/_, _%_, _<_}
+use mathlib.Core.Path.{_≡_}
+use mathlib.Core.List.{List}
+use mathlib.Core.Logic.{_↔_, _≢_}
+use Rattle.line.specs.Bit.{bitAt, field}
+use Rattle.e1.specs.Frame.{frameAt}
+use Rattle.e1.specs.Block.{blockCheck, carried}
+use Rattle.read.specs.Entry.{Read}
+use Rattle.read.specs.declared.Reading.{Reading}
+
+-- k of the numbers below n have P
+pub record Counted (n k : ℕ) (P : ℕ → Type 0) : Type 0 where
+  pub at : ℕ → ℕ
+  pub rising : (i : ℕ) → i + 1 < k → at i < at (i + 1)
+  pub each : (i : ℕ) → i < k → (at i < n) × P (at i)
+  pub all : (b : ℕ) → b < n → P b → (i : ℕ) × (i < k) × (at i ≡ b)
+
+-- block b, numbered from the multiframe start q, agrees with the check that the next one carries
+abbrev pub Agrees : List ℕ → ℕ → ℕ → Type 0
+Agrees s q b = blockCheck s (q + 2048 * b) ≡ carried s (q + 2048 * b + 2048)
+
+-- the word of the even frame 2i is not 0011011
+abbrev pub WrongWord : List ℕ → ℕ → ℕ → Type 0
+WrongWord s q i = field s (frameAt q (2 * i) + 1) 7 ≢ 27
+
+-- E bit e of g multiframes, two in each, is 0, and the second block of its multiframe was compared and agreed
+pub record FarError (s : List ℕ) (q g e : ℕ) : Type 0 where
+  pub zero : bitAt s (frameAt q (16 * (e / 2) + 13 + 2 * (e % 2))) ≡ 0
+  pub compared : 2 * (e / 2) + 2 < 2 * g
+  pub agreed : Agrees s q (2 * (e / 2) + 1)
+
+pub record Counts : Type 0 where
+  pub words : (s payload slot0 : List ℕ) (r : Reading) (payload' slot0' : List ℕ)
+      → Read s payload slot0 r payload' slot0' → r .number ≡ 0
+      → Counted (8 * r .used) (r .words) (WrongWord s (r .start))
+  pub errored : (s payload slot0 : List ℕ) (r : Reading) (payload' slot0' : List ℕ)
+      → Read s payload slot0 r payload' slot0' → r .number ≡ 0
+      → Counted (r .compared) (r .errored) (λ b. Agrees s (r .start) b → ⊥)
+  pub farend : (s payload slot0 : List ℕ) (r : Reading) (payload' slot0' : List ℕ)
+      → Read s payload slot0 r payload' slot0' → r .number ≡ 0
+      → Counted (2 * r .used) (r .farend) (FarError s (r .start) (r .used))
+  -- so none is errored exactly when every compared block agrees
+  pub none-errored : (s payload slot0 : List ℕ) (r : Reading) (payload' slot0' : List ℕ)
+      → Read s payload slot0 r payload' slot0' → r .number ≡ 0
+      → r .errored ≡ 0 ↔ ((b : ℕ) → b + 1 < 2 * r .used → Agrees s (r .start) b)

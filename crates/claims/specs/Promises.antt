@@ -1,0 +1,19 @@
+-- All that is promised of the kit.
+use Rattle.claims.specs.Demand1.{Demand1}
+use Rattle.claims.specs.Demand2.{Demand2}
+use Rattle.claims.specs.Demand3.{Demand3}
+use Rattle.claims.specs.Counts.{Counts}
+use Rattle.claims.specs.Accepts.{Accepts}
+use Rattle.claims.specs.Interface.{Interface}
+use Rattle.claims.specs.Single.{Single}
+use Rattle.claims.specs.Bench.{Bench}
+
+pub record Promises : Type 0 where
+  pub demand-1 : Demand1
+  pub demand-2 : Demand2
+  pub demand-3 : Demand3
+  pub counts : Counts
+  pub accepts : Accepts
+  pub interface : Interface
+  pub single : Single
+  pub bench : Bench
