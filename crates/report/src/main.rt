@@ -1,44 +1,53 @@
-// Reads a line on standard input and prints its report.
-use libc::STDIN_FILENO;
-use libc::STDOUT_FILENO;
+// Reads a line, from the file that the argument names or from standard input, and prints its report.
+use program::print;
+use program::print_number;
 
 // a word and a number, on a line of its own
-fn print(word: &[u8], n: u64) {
-    io::write_all(STDOUT_FILENO, word);
-    io::print_decimal(STDOUT_FILENO, n);
-    io::write_all(STDOUT_FILENO, b"\n");
+fn line(word: &[u8], n: usize) -> bool {
+    print_number(word, n as u64) & print(b"\n")
 }
 
-fn print_count(word: &[u8], n: usize) {
-    print(word, n as u64);
-}
-
-fn print_report(r: read::Reading) {
-    print_count(b"place ", r.place);
-    print_count(b"start ", r.start);
-    print_count(b"whole ", r.whole);
-    print_count(b"used ", r.used);
-    if r.lost == 0 {
-        io::write_all(STDOUT_FILENO, b"lost no\n");
-    } else {
-        print_count(b"lost ", r.lost);
+fn print_lost(frame: usize) -> bool {
+    if frame == 0 {
+        return print(b"lost no\n");
     }
-    print_count(b"words ", r.words);
-    print_count(b"compared ", r.compared);
-    print_count(b"errored ", r.errored);
-    print_count(b"farend ", r.farend);
+    line(b"lost ", frame)
+}
+
+fn print_report(r: read::Reading) -> bool {
+    line(b"place ", r.place)
+        & line(b"start ", r.start)
+        & line(b"whole ", r.whole)
+        & line(b"used ", r.used)
+        & print_lost(r.lost)
+        & line(b"words ", r.words)
+        & line(b"compared ", r.compared)
+        & line(b"errored ", r.errored)
+        & line(b"farend ", r.farend)
+}
+
+// the report, or the refusal: its number is printed, and said in words on standard error
+fn report(image: &[u8]) {
+    let mut payload = [0u8; 7936];
+    let mut slot0 = [0u8; 256];
+    let r = read::read(image, &mut payload, &mut slot0);
+    if r.number == 0 {
+        program::written(b"report", print_report(r));
+        return;
+    }
+    program::written(
+        b"report",
+        print_number(b"refused ", r.number) & print(b"\n"),
+    );
+    program::refused(b"report", r.number);
 }
 
 // No line over 8,192 octets is read, so one octet more is enough to know that it is longer.
 fn main() {
     let mut image = [0u8; 8193];
-    let mut payload = [0u8; 7936];
-    let mut slot0 = [0u8; 256];
-    let n = io::read_full(STDIN_FILENO, &mut image);
-    let r = read::read(&image[..n], &mut payload, &mut slot0);
-    if r.number == 0 {
-        print_report(r);
-    } else {
-        print(b"refused ", r.number);
+    let taken = program::read(b"report", &mut image);
+    if taken.ok {
+        let n = taken.n;
+        report(&image[..n]);
     }
 }

@@ -8,8 +8,10 @@ use Rattle.frame.proofs.frame.Tie as tie
 pub frame-spec : {M : Type 1} → statement M
 frame-spec =
     tie.close
-    (tie.spec (search needs) (search needs) (search needs) (search needs)
+    (tie.spec (search needs) (search needs) (search needs) (search needs) (search needs)
     (λ c. simp length-take (omega arith))
-    (search needs) (search needs) (search needs) (search needs) (search needs) (search needs) (search needs) (search needs) (search needs)
+    (search needs) (search needs) (search needs) (search needs) (search needs) (search needs) (search needs)
+    (search needs)
+    (search needs) (search needs) (search needs)
     (λ c. simp length-take (omega arith))
-    (search needs) (search needs))
+    (search needs) (search needs) (search needs))

@@ -1,0 +1,128 @@
+// What the programs share: the input that they are given, what they print and say, and text taken apart.
+mod refusal;
+pub mod text;
+
+use libc::STDERR_FILENO;
+use libc::STDIN_FILENO;
+use libc::STDOUT_FILENO;
+pub use refusal::print_refusal;
+ghost use Prim.Native.Nat.{_≤_};
+ghost use lib.ListN.{length};
+ghost use Rattle.io.specs.Counts.{Counts};
+
+// text on standard output; like all that prints, it answers whether it was written
+pub fn print(text: &[u8]) -> bool {
+    io::write_all(STDOUT_FILENO, text)
+}
+
+// text, and a number behind it
+pub fn print_number(text: &[u8], n: u64) -> bool {
+    print(text) & io::print_decimal(STDOUT_FILENO, n)
+}
+
+// a line on standard error: the program, and what it has to say
+pub fn say(program: &[u8], what: &[u8]) {
+    io::write_all(STDERR_FILENO, program);
+    io::write_all(STDERR_FILENO, b": ");
+    io::write_all(STDERR_FILENO, what);
+    io::write_all(STDERR_FILENO, b"\n");
+}
+
+// a line on standard error: the program, what failed, and why, as the system says it
+pub fn fail(program: &[u8], what: &[u8]) {
+    io::write_all(STDERR_FILENO, program);
+    io::write_all(STDERR_FILENO, b": ");
+    os::fail(what);
+}
+
+// a line on standard error: the program, and the number that it was refused with, in words
+pub fn refused(program: &[u8], number: u64) {
+    io::write_all(STDERR_FILENO, program);
+    io::write_all(STDERR_FILENO, b": refused ");
+    io::print_decimal(STDERR_FILENO, number);
+    io::write_all(STDERR_FILENO, b": ");
+    print_refusal(STDERR_FILENO, number);
+    io::write_all(STDERR_FILENO, b"\n");
+}
+
+// the end of a program's output, which was written or not
+pub fn written(program: &[u8], ok: bool) {
+    if !ok {
+        fail(program, b"standard output");
+    }
+}
+
+// an open input: its descriptor, below 0 where it is not open, and how many octets of a lent path are its name
+pub struct Input {
+    pub fd: i32,
+    pub n: usize,
+}
+
+// The file that the one argument names, or standard input where there is none. Where it cannot be opened, that is said.
+pub fn open(program: &[u8], path: &mut [u8]) -> Input
+    requires { ⌜ 14 ≤ length (now path) ⌝ }
+    ensures { λ r. ⌜ Counts (r .n) (now (path .exit)) ⌝ }
+{
+    if os::arg_count() < 2 {
+        let n = bytes::copy(b"standard input", path);
+        return Input {
+            fd: STDIN_FILENO,
+            n: n,
+        };
+    }
+    let n = os::arg(1, path);
+    if os::arg_count() > 2 {
+        say(
+            program,
+            b"more than one argument: it reads one file, or standard input",
+        );
+        return Input { fd: -1, n: n };
+    }
+    if os::errno() != 0 {
+        fail(program, b"its argument");
+        return Input { fd: -1, n: n };
+    }
+    let fd = os::open_read(&path[..n]);
+    if fd < 0 {
+        fail(program, &path[..n]);
+    }
+    Input { fd: fd, n: n }
+}
+
+// what was read: so many octets, up to the input's end or to the room's; or, where it is not ok, up to a failure
+pub struct Taken {
+    pub n: usize,
+    pub ok: bool,
+}
+
+fn take(fd: i32, room: &mut [u8]) -> Taken
+    ensures { λ r. ⌜ Counts (r .n) (now (room .exit)) ⌝ }
+{
+    let mut n = 0;
+    while n < room.len() {
+        let got = libc::read(fd, &mut room[n..]);
+        let more = io::count(got, &room[n..]);
+        if more == 0 {
+            return Taken { n: n, ok: got == 0 };
+        }
+        n += more;
+    }
+    Taken { n: n, ok: true }
+}
+
+// The program's input as far as there is room for it. Where it cannot be read, that is said.
+pub fn read(program: &[u8], room: &mut [u8]) -> Taken
+    ensures { λ r. ⌜ Counts (r .n) (now (room .exit)) ⌝ }
+{
+    let mut path = io::buffer();
+    let input = open(program, &mut path);
+    if input.fd < 0 {
+        return Taken { n: 0, ok: false };
+    }
+    let taken = take(input.fd, room);
+    if !taken.ok {
+        let n = input.n;
+        fail(program, &path[..n]);
+    }
+    taken
+}

@@ -1,0 +1,23 @@
+// The words for each number that says no.
+
+// on a descriptor, with no line end
+pub fn print_refusal(fd: i32, number: u64) -> bool {
+    crate::text::write_line(
+        fd,
+        b"accepted\n\
+        the line is under 2,048 octets; four multiframes are the least that can be read\n\
+        the line is over 8,192 octets; sixteen multiframes are the most that is read\n\
+        no place stands: no frames with two multiframe signals are found in the line\n\
+        an output has no room for what is to be written\n\
+        the payload is not 1 to 16 multiframes of 496 octets (504 with their overhead)\n\
+        the overhead is not 8 octets a multiframe, or one has a bit that must be 0\n\
+        the check that is carried in is over 15\n\
+        a host record is four octets: kind, output slot, input slot, host\n\
+        the kind of a host record is 1 (stage), 2 (commit), 3 (read) or 4 (drop)\n\
+        an output slot is 1 to 31, and an input slot 1 to 31, or 0 for idle\n\
+        the key is off; stage, commit and drop need it on\n\
+        nothing is staged; commit and drop need a staged map\n\
+        the key's position is 0 (off) or 1 (on)",
+        number,
+    )
+}
