@@ -1,0 +1,82 @@
+// Slot 0 of a frame: its bit 1 in a cell, the other seven bits in a wider one beside it.
+use pen::Pen;
+ghost use mathlib.Core.Path.{_≡_};
+ghost use Prim.Native.Nat.{_<_};
+ghost use lib.ListN.{length};
+
+// the bits of frame f's slot 0
+fn bits(slot0: &[u8; 256], f: usize) -> [usize; 8]
+    requires { ⌜ f < 256 ⌝ }
+    ensures { λ r. ⌜ length r ≡ 8 ⌝ }
+{
+    let mut bits = [0; 8];
+    for i in 0..8 {
+        bits[i] = line::bit(slot0, 8 * f + i) as usize;
+    }
+    bits
+}
+
+// an even frame: the check bit and the alignment word, with a cross where it is wrong
+fn even(pen: Pen, bits: &[usize], is_word: bool) -> Pen {
+    pen.fill(b"<g class='right%'>", &[is_word as usize]).fill(
+        b"<g class='cell bits check'><rect width='24' height='24'/><text x='12' y='16'>%</text></g>\
+<g class='cell bits word'><rect x='24' width='72' height='24'/>\
+<text x='60' y='16'><tspan class='cross'>&#215;</tspan>%%%%%%%</text></g></g>",
+        bits,
+    )
+}
+
+// bit 1 of an odd frame below 12 of its multiframe: the signal 001011, with a cross where it is wrong
+fn signal(pen: Pen, n: usize, bit: usize) -> Pen {
+    let is_one = (n == 5) | ((n == 9) | (n == 11));
+    let is_right = (bit == 1) == is_one;
+    pen.fill(
+        b"<g class='right%'><g class='cell bits signal'><rect width='24' height='24'/>\
+<text x='12' y='16'><tspan class='cross'>&#215;</tspan>%</text></g></g>",
+        &[is_right as usize, bit],
+    )
+}
+
+// bit 1 of frame 13 or 15: E, and whether it counts where it is 0
+fn far(pen: Pen, bit: usize, counts: bool) -> Pen {
+    pen.fill(
+        b"<g class='cell bits e% c%'><rect width='24' height='24'/><text x='12' y='16'>E%</text></g>",
+        &[bit, counts as usize, bit],
+    )
+}
+
+// bits 2 to 8 of an odd frame: 1, A, Sa4 to Sa8
+fn overhead(pen: Pen, bits: &[usize]) -> Pen
+    requires { ⌜ length (now bits) ≡ 8 ⌝ }
+{
+    let pen = pen.fill(
+        b"<g class='cell bits a%'><rect x='24' width='72' height='24'/><text x='60' y='16'>",
+        &[bits[2]],
+    );
+    pen.fill(b"% % %%%%%</text></g>", &bits[1..])
+}
+
+fn odd(pen: Pen, bits: &[usize], n: usize, counts: bool) -> Pen
+    requires { ⌜ length (now bits) ≡ 8 ⌝ }
+{
+    if n < 12 {
+        return overhead(signal(pen, n, bits[0]), bits);
+    }
+    overhead(far(pen, bits[0], counts), bits)
+}
+
+// frame f of the line, in its place among the sixteen of its multiframe; its number shows under a pointer
+pub fn frame(pen: Pen, slot0: &[u8; 256], f: usize, counts: bool) -> Pen
+    requires { ⌜ f < 256 ⌝ }
+{
+    let n = f % 16;
+    let pen = pen.fill(
+        b"<g transform='translate(% %)'><title>frame %</title>",
+        &[100 * (n % 8), 28 * (n / 8), f],
+    );
+    let bits = bits(slot0, f);
+    if n % 2 == 0 {
+        return even(pen, &bits, e1::is_word(slot0, 8 * f)).text(b"</g>\n");
+    }
+    odd(pen, &bits, n, counts).text(b"</g>\n")
+}

@@ -1,0 +1,48 @@
+// Pictures as SVG: a line, and the live map. Each answers whether all of it was written.
+mod crossing;
+mod frames;
+mod legend;
+mod multiframes;
+mod report;
+mod ruler;
+
+pub use crossing::map;
+use pen::Pen;
+use read::Reading;
+ghost use Prim.Native.Nat.{_≤_};
+ghost use lib.ListN.{length};
+ghost use Rattle.drawing.specs.Shown.{Shown};
+
+// how many multiframes are drawn: those that are used, and one in which alignment is lost, if it is
+fn drawn(r: Reading) -> usize
+    requires { ⌜ r .used ≤ 16 ⌝ }
+    ensures { λ n. ⌜ n ≤ 17 ⌝ }
+{
+    if r.lost == 0 {
+        return r.used;
+    }
+    r.used + 1
+}
+
+// all but the multiframes
+fn page_of(pen: Pen, octets: usize, r: Reading) -> Pen
+    requires { ⌜ Shown octets r ⌝ }
+{
+    let below = 316 + 68 * drawn(r);
+    let pen = legend::style(pen.page(1080, below + 108)).fill(
+        b"<text class='title' x='24' y='40'>A line of % octets</text>\n",
+        &[octets],
+    );
+    let pen = ruler::ruler(report::report(pen, r), octets, r);
+    legend::legend(pen, below)
+}
+
+// a line, with what `read` read of it
+pub fn line(fd: i32, image: &[u8], r: Reading, slot0: &[u8; 256]) -> bool
+    requires { ⌜ Shown (length (now image)) r ⌝ }
+{
+    let pen = page_of(Pen::new(fd), image.len(), r);
+    let pen = multiframes::multiframes(pen, image, slot0, r);
+    let pen = multiframes::loss(pen, r.used, r.lost).text(b"</svg>\n");
+    pen.written
+}

@@ -1,0 +1,75 @@
+// The whole line as one bar: where alignment is found, the multiframes, and where alignment is lost.
+use pen::Pen;
+use read::Reading;
+ghost use Prim.Native.Nat.{_<_, _≤_};
+ghost use Rattle.drawing.specs.Shown.{Shown};
+
+// how far along the bar a place of a line of so many octets stands
+fn along(octets: usize, place: usize) -> usize
+    requires { ⌜ (2048 ≤ octets) × (octets ≤ 8192) × (place ≤ 131072) ⌝ }
+    ensures { λ r. ⌜ r < 4294967296 ⌝ }
+{
+    1032 * place / (8 * octets)
+}
+
+// a multiframe of the bar
+fn multiframe(pen: Pen, x: usize, width: usize, m: usize, is_used: bool) -> Pen
+    requires { ⌜ (x < 4294967296) × (width < 4294967296) ⌝ }
+{
+    pen.fill(
+        b"<g class='cell used%'><rect x='%' width='%' height='24'/><text x='%' y='16'>%</text></g>\n",
+        &[is_used as usize, x, width, x + width / 2, m],
+    )
+}
+
+fn multiframes(pen: Pen, octets: usize, r: Reading) -> Pen
+    requires { ⌜ Shown octets r ⌝ }
+{
+    let start = r.start;
+    let width = along(octets, 4096);
+    let mut pen = pen;
+    for m in 0..r.whole {
+        let x = along(octets, start + 4096 * m);
+        pen = multiframe(pen, x, width, m, m < r.used);
+    }
+    pen
+}
+
+// where alignment is lost, if it is
+fn loss(pen: Pen, octets: usize, r: Reading) -> Pen
+    requires { ⌜ Shown octets r ⌝ }
+{
+    if r.lost == 0 {
+        return pen;
+    }
+    let x = along(octets, r.start + 4096 * r.used + 256 * (r.lost % 16));
+    pen.fill(
+        b"<path d='M% 0V54'/><text x='%' y='54' dx='-4' text-anchor='end'>lost: frame %</text>\n",
+        &[x, x, r.lost],
+    )
+}
+
+// where alignment is found, and the first bit of a multiframe
+fn found(pen: Pen, octets: usize, r: Reading) -> Pen
+    requires { ⌜ Shown octets r ⌝ }
+{
+    let x = along(octets, r.place);
+    let pen = pen.fill(
+        b"<path d='M% 24V-14'/><text x='%' y='-6' dx='4'>found: place %</text>\n",
+        &[x, x, r.place],
+    );
+    let x = along(octets, r.start);
+    pen.fill(
+        b"<path d='M% 0V38'/><text x='%' y='38' dx='4'>first multiframe: start %</text>\n",
+        &[x, x, r.start],
+    )
+}
+
+pub fn ruler(pen: Pen, octets: usize, r: Reading) -> Pen
+    requires { ⌜ Shown octets r ⌝ }
+{
+    let pen = pen.text(
+        b"<g transform='translate(24 168)'><rect class='rest' width='1032' height='24'/>\n",
+    );
+    loss(found(multiframes(pen, octets, r), octets, r), octets, r).text(b"</g>\n")
+}
