@@ -1,14 +1,15 @@
-// The bench console: the key, host records and boundaries, typed as lines; each is answered as it comes.
+// The bench console: the key, host records and boundaries, as lines typed at a terminal, piped, or played from the file
+// that the argument names; each is answered as it comes.
 mod parse;
+mod tell;
 
 use exchange::Answered;
 use exchange::State;
-use libc::STDIN_FILENO;
-use libc::STDOUT_FILENO;
 use parse::Asked;
-ghost use mathlib.Core.Path.{_≡_};
+ghost use Prim.Native.Nat.{_≤_};
+ghost use lib.ListN.{length};
 ghost use Rattle.io.specs.Counts.{Counts};
-ghost use Rattle.console.specs.Line.{Follows};
+ghost use Rattle.console.specs.Line.{octetCount, Follows};
 
 // the next octet of the input, or its end
 enum Came {
@@ -16,13 +17,17 @@ enum Came {
     End,
 }
 
-fn next() -> Came {
+// A read that fails ends the input too, and is said.
+fn next(fd: i32, name: &[u8]) -> Came {
     let mut octet = [0u8; 1];
-    if libc::read(STDIN_FILENO, &mut octet) == 1 {
-        Came::Octet(octet[0])
-    } else {
-        Came::End
+    let got = libc::read(fd, &mut octet);
+    if got == 1 {
+        return Came::Octet(octet[0]);
     }
+    if got < 0 {
+        program::fail(b"console", name);
+    }
+    Came::End
 }
 
 // a line of the input: how many of its octets are kept, and whether more may come behind it
@@ -32,12 +37,12 @@ struct Typed {
 }
 
 // Keeps what there is room for. Nothing says that a line ends, so its octets are counted.
-fn read_line(line: &mut [u8]) -> Typed
+fn read_line(fd: i32, name: &[u8], line: &mut [u8]) -> Typed
     ensures { λ r. ⌜ Counts (r .n) (now (line .exit)) ⌝ }
 {
     let mut n = 0;
     for _octet in 0..u64::MAX {
-        let Came::Octet(x) = next() else {
+        let Came::Octet(x) = next(fd, name) else {
             break;
         };
         if x == b'\n' {
@@ -51,88 +56,67 @@ fn read_line(line: &mut [u8]) -> Typed
     Typed { n: n, more: false }
 }
 
-fn print(text: &[u8]) {
-    io::write_all(STDOUT_FILENO, text);
-}
-
-// the paper's words for a number
-fn print_words(number: u64) {
-    match number {
-        0 => print(b"accepted"),
-        8 => print(b"record isn't 4 octets"),
-        9 => print(b"kind isn't 1 to 4"),
-        10 => print(b"kind 1 or 3 with a not 1 to 31, or kind 1 with b over 31"),
-        11 => print(b"kind 1, 2 or 4 with the flag off"),
-        12 => print(b"kind 2 or 4 with nothing staged"),
-        13 => print(b"key position isn't 0 or 1"),
-        _ => {}
-    }
-}
-
-// prints what a call answers, with the entry where it reads one, and hands on the state that it leaves
-fn tell(a: Answered, reads: bool) -> State
-    ensures { λ r. ⌜ r ≡ a .state ⌝ }
+// the answer to the call that a line asks for; a line that asks for none leaves the state as it is
+fn called(state: State, asked: Asked, octets: &[u8]) -> Answered
+    requires { ⌜ octetCount asked ≤ length (now octets) ⌝ }
+    ensures { λ r. ⌜ Follows state (r .state) ⌝ }
 {
-    io::print_decimal(STDOUT_FILENO, a.number);
-    print(b" ");
-    print_words(a.number);
-    if reads & (a.number == 0) {
-        print(b", entry ");
-        io::print_decimal(STDOUT_FILENO, a.entry as u64);
-    }
-    print(b"\n");
-    a.state
-}
-
-// an entry of the live map, as a host reads it
-fn print_entry(state: State, slot: u8) {
-    print(b" ");
-    let a = exchange::host(state, &[3, slot, 0, 0]);
-    io::print_decimal(STDOUT_FILENO, a.entry as u64);
-}
-
-fn print_map(state: State) {
-    print(b"map");
-    for slot in 1..32 {
-        print_entry(state, slot);
-    }
-    print(b"\n");
-}
-
-// answers a line, and hands on the state that it leaves
-fn answer(state: State, line: &[u8]) -> State
-    ensures { λ r. ⌜ Follows state r ⌝ }
-{
-    let mut octets = [0u8; 8];
-    let asked = parse::line(line, &mut octets);
     match asked {
-        Asked::Key(position) => tell(exchange::key(state, position), false),
-        Asked::Host(n) => tell(exchange::host(state, &octets[..n]), octets[0] == 3),
-        Asked::Boundary => tell(exchange::boundary(state), false),
-        Asked::Map => {
-            print_map(state);
-            state
-        }
-        Asked::Unknown => {
-            print(b"?\n");
-            state
-        }
+        Asked::Key(position) => exchange::key(state, position),
+        Asked::Host(n) => exchange::host(state, &octets[..n]),
+        Asked::Boundary => exchange::boundary(state),
+        _ => Answered {
+            state: state,
+            number: 0,
+            entry: 0,
+        },
     }
 }
 
-// No line over 80 octets is known, so one octet more is enough to know that it is longer. A last line without an end is answered too.
+// the state that a line leaves, and whether another is wanted
+struct Turn {
+    state: State,
+    more: bool,
+}
+
+// No line over 80 octets is known, so one octet more is enough to know that it is longer. A last line without an end is
+// answered too. Only who types is prompted.
+fn play(state: State, fd: i32, name: &[u8]) -> Turn
+    ensures { λ r. ⌜ Follows state (r .state) ⌝ }
+{
+    let mut line = [0u8; 81];
+    let mut octets = [0u8; 8];
+    let prompted = libc::isatty(fd) != 1 || program::print(b"> ");
+    let typed = read_line(fd, name, &mut line);
+    let n = typed.n;
+    let asked = parse::line(&line[..n], &mut octets);
+    let a = called(state, asked, &octets);
+    let ok = prompted & tell::answer(state, a, asked, &octets, &line[..n]);
+    program::written(b"console", ok);
+    let after = a.state;
+    Turn {
+        state: after,
+        more: ok & typed.more & !parse::is_quit(asked),
+    }
+}
+
 // Nothing says that the input ends, so its lines are counted.
-fn main() {
+fn dialogue(fd: i32, name: &[u8]) {
     let mut state = exchange::start();
     for _line in 0..u64::MAX {
-        let mut line = [0u8; 81];
-        let typed = read_line(&mut line);
-        let n = typed.n;
-        if typed.more | (n > 0) {
-            state = answer(state, &line[..n]);
-        }
-        if !typed.more {
+        let turn = play(state, fd, name);
+        state = turn.state;
+        if !turn.more {
             break;
         }
+    }
+}
+
+fn main() {
+    let mut path = io::buffer();
+    let input = program::open(b"console", &mut path);
+    if input.fd >= 0 {
+        let n = input.n;
+        dialogue(input.fd, &path[..n]);
     }
 }

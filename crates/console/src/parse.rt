@@ -1,136 +1,143 @@
-// A line taken apart: a word, and decimal numbers behind it.
-ghost use mathlib.Core.Path.{_≡_};
+// What a line asks for.
+use program::text::line_of;
+use program::text::numbers;
+use program::text::skip;
 ghost use Prim.Native.Nat.{_≤_};
 ghost use lib.ListN.{length};
 ghost use Rattle.io.specs.Counts.{Counts};
-ghost use Rattle.console.specs.Line.{octetCount, spelt};
+ghost use Rattle.console.specs.Line.{octetCount};
 
-// what a line asks for: the key, to a position; a host record, of so many octets; a boundary; the live map; nothing that is known
+// The commands, by the lines of this table, which help shows. Stage, commit, read and drop are the kinds 1 to 4 of a
+// host record.
+pub const COMMANDS: [u8; 720] = *b"\
+    key N           turns the key: 1 is on, 0 is off\n\
+    stage OUT IN    stages that output slot OUT takes input slot IN, or 0 for idle\n\
+    commit          lets the staged map wait for the boundary\n\
+    read OUT        says which input slot output slot OUT takes\n\
+    drop            drops the staged map\n\
+    record K A B H  sends a host record by its octets, up to eight: kind, A, B, host\n\
+    boundary        is a multiframe boundary: the waiting map becomes the live one\n\
+    map             shows the live map: what output slots 1 to 31 take\n\
+    status          shows the key, and the live, the staged and the waiting map\n\
+    picture FILE    draws the live map into FILE, as SVG\n\
+    help            shows these lines\n\
+    quit            ends\n\
+    exit            ends, too\n";
+
+const KEY: usize = 0;
+
+const STAGE: usize = 1;
+
+const READ: usize = 3;
+
+const DROP: usize = 4;
+
+const RECORD: usize = 5;
+
+const BOUNDARY: usize = 6;
+
+pub const MAP: usize = 7;
+
+pub const STATUS: usize = 8;
+
+const PICTURE: usize = 9;
+
+const HELP: usize = 10;
+
+const QUIT: usize = 11;
+
+const EXIT: usize = 12;
+
+// What else can be wrong with a line than a command's numbers: no command, more than 80 octets, a record's number that
+// is no octet.
+pub const UNKNOWN: usize = 13;
+
+pub const TOO_LONG: usize = 14;
+
+pub const NO_OCTET: usize = 15;
+
+// the key, to a position; a host record, of so many octets; a boundary; what is shown, by its command; a picture of the live
+// map; what is wrong, by its command or by one of the numbers above; nothing, as an empty line or a remark; the end
 pub enum Asked {
     Key(u64),
     Host(usize),
     Boundary,
-    Map,
-    Unknown,
-}
-
-// what a word spells
-pub enum Spelt {
-    Number(u64),
+    Show(usize),
+    Picture,
+    Wrong(usize),
     Nothing,
+    Quit,
 }
 
-// the first place from `at` on that is no space, or that is one, or the line's end
-fn skip(s: &[u8], at: usize, spaces: bool) -> usize
-    requires { ⌜ at ≤ length (now s) ⌝ }
-    ensures { λ r. ⌜ (at ≤ r) × (r ≤ length (now (s .entry))) ⌝ }
-{
-    let mut i = at;
-    while i < s.len() && (s[i] == b' ') == spaces {
-        i += 1;
+pub fn is_quit(asked: Asked) -> bool {
+    if let Asked::Quit = asked { true } else { false }
+}
+
+// whether a command takes so many numbers
+fn takes(command: usize, n: usize) -> bool {
+    match command {
+        KEY | READ => n == 1,
+        STAGE => n == 2,
+        RECORD => n <= 8,
+        PICTURE => false,
+        _ => n == 0,
     }
-    i
 }
 
-// the number that a word spells
-fn number(s: &[u8]) -> Spelt
-    ensures { λ r. ⌜ r ≡ spelt 0 (now (s .entry)) ⌝ }
-{
-    let mut v = 0;
-    for i in 0..s.len() {
-        let x = s[i];
-        if (x < b'0') | (b'9' < x) {
-            return Spelt::Nothing;
-        }
-        let d = (x - b'0') as u64;
-        if v > (u64::MAX - d) / 10 {
-            return Spelt::Nothing;
-        }
-        v = 10 * v + d;
-    }
-    Spelt::Number(v)
+// A number that no octet holds goes as 255, which is no slot either, so that it is refused as any that is none.
+fn slot(x: u64) -> u64 {
+    if x < 255 { x } else { 255 }
 }
 
-// the numbers that the words of s spell, up to 8; 9 where one spells none, or where there are more
-fn numbers(s: &[u8], row: &mut [u64; 8]) -> usize
-    ensures { λ r. ⌜ r ≤ 9 ⌝ }
-{
-    let mut n = 0;
-    let mut at = skip(s, 0, true);
-    while at < s.len() {
-        let e = skip(s, at, false);
-        let Spelt::Number(v) = number(&s[at..e]) else {
-            return 9;
-        };
-        if n == 8 {
-            return 9;
-        }
-        row[n] = v;
-        n += 1;
-        at = skip(s, e, true);
-    }
-    n
-}
-
-// a host record of the first n numbers of a row, each an octet
+// a host record by its octets, the first n numbers of a row
 fn record(row: &[u64; 8], n: usize, octets: &mut [u8]) -> Asked
-    requires { ⌜ (n ≤ 8) × (8 ≤ length (now octets)) ⌝ }
+    requires { ⌜ 8 ≤ length (now octets) ⌝ }
     ensures { λ r. ⌜ Counts (octetCount r) (now (octets .exit)) ⌝ }
 {
+    if n > 8 {
+        return Asked::Wrong(RECORD);
+    }
     for i in 0..n {
         let x = row[i];
         if x > 255 {
-            return Asked::Unknown;
+            return Asked::Wrong(NO_OCTET);
         }
         octets[i] = x as u8;
     }
     Asked::Host(n)
 }
 
-// a word by its name, with as many numbers behind it as it takes
-fn is(word: &[u8], n: usize, name: &[u8], count: usize) -> bool {
-    check::same(word, name) & (n == count)
-}
-
-// the kind of host record that a word stands for, or 0
-fn kind(word: &[u8], n: usize) -> u64 {
-    if is(word, n, b"stage", 2) {
-        return 1;
-    }
-    if is(word, n, b"commit", 0) {
-        return 2;
-    }
-    if is(word, n, b"read", 1) {
-        return 3;
-    }
-    if is(word, n, b"drop", 0) {
-        return 4;
-    }
-    0
-}
-
-// what a word asks for, with the n numbers of a row behind it
-fn meaning(word: &[u8], row: &[u64; 8], n: usize, octets: &mut [u8]) -> Asked
+// what a command asks for, with the n numbers of a row behind it
+fn meaning(command: usize, row: &[u64; 8], n: usize, octets: &mut [u8]) -> Asked
     requires { ⌜ 8 ≤ length (now octets) ⌝ }
     ensures { λ r. ⌜ Counts (octetCount r) (now (octets .exit)) ⌝ }
 {
-    if is(word, n, b"key", 1) {
-        return Asked::Key(row[0]);
+    if !takes(command, n) {
+        return Asked::Wrong(command);
     }
-    if is(word, n, b"boundary", 0) {
-        return Asked::Boundary;
+    match command {
+        KEY => Asked::Key(row[0]),
+        STAGE..=DROP => {
+            let kind = command as u64;
+            record(
+                &[kind, slot(row[0]), slot(row[1]), 0, 0, 0, 0, 0],
+                4,
+                octets,
+            )
+        }
+        RECORD => record(row, n, octets),
+        BOUNDARY => Asked::Boundary,
+        MAP | STATUS | HELP => Asked::Show(command),
+        QUIT | EXIT => Asked::Quit,
+        _ => Asked::Wrong(UNKNOWN),
     }
-    if is(word, n, b"map", 0) {
-        return Asked::Map;
-    }
-    if n <= 8 && check::same(word, b"record") {
-        return record(row, n, octets);
-    }
-    let kind = kind(word, n);
-    if kind == 0 {
-        return Asked::Unknown;
-    }
-    record(&[kind, row[0], row[1], 0, 0, 0, 0, 0], 4, octets)
+}
+
+// where the word behind a line's first one begins, or the line's end
+pub fn second_word(s: &[u8]) -> usize
+    ensures { λ r. ⌜ r ≤ length (now (s .entry)) ⌝ }
+{
+    skip(s, skip(s, skip(s, 0, true), false), true)
 }
 
 // what a line asks for; the octets of a host record go where they are lent
@@ -138,12 +145,22 @@ pub fn line(s: &[u8], octets: &mut [u8]) -> Asked
     requires { ⌜ 8 ≤ length (now octets) ⌝ }
     ensures { λ r. ⌜ Counts (octetCount r) (now (octets .exit)) ⌝ }
 {
-    if s.len() > 80 {
-        return Asked::Unknown;
-    }
     let a = skip(s, 0, true);
+    if a < s.len() && s[a] == b'#' {
+        return Asked::Nothing;
+    }
+    if s.len() > 80 {
+        return Asked::Wrong(TOO_LONG);
+    }
+    if a == s.len() {
+        return Asked::Nothing;
+    }
     let e = skip(s, a, false);
     let mut row = [0; 8];
     let n = numbers(&s[e..], &mut row);
-    meaning(&s[a..e], &row, n, octets)
+    let command = line_of(&COMMANDS, &s[a..e]);
+    if command == PICTURE && second_word(s) < s.len() {
+        return Asked::Picture;
+    }
+    meaning(command, &row, n, octets)
 }

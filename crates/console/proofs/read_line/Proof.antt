@@ -9,14 +9,17 @@ use Rattle.console.proofs.read_line.Statement.{statement}
 use Rattle.console.proofs.read_line.Tie as tie
 
 abbrev Inv-loop : tie.InvT-loop
-Inv-loop line₀ n₀ -octet₀ line n -octet = (n ≤ length line) × (length line ≡ length line₀)
+Inv-loop fd name line₀ n₀ -octet₀ line n -octet = (n ≤ length line) × (length line ≡ length line₀)
 
 abbrev μ-loop : tie.MeasureT-loop
-μ-loop line₀ n₀ -octet₀ line n -octet = 2 ^ 64 - -octet
+μ-loop fd name line₀ n₀ -octet₀ line n -octet = 2 ^ 64 - -octet
 
 loop-again : tie.Need-loop-again Inv-loop μ-loop
 loop-again c =
-    ⊎-elim (λ w. omega (arith, simp length-set at (ap length (w .1)))) (λ w. omega (arith, ap length (w .1))) (c .if2 .came)
+    ⊎-elim
+    (λ w. omega (arith, simp length-set at (ap length (w .1))))
+    (λ w. omega (arith, ap length (w .1)))
+    (c .if2 .came)
 
 pub read-line-spec : {M : Type 1} → statement M
 read-line-spec =

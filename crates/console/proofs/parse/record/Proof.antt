@@ -18,7 +18,7 @@ record-spec =
     tie.close
     (tie.spec Inv-loop μ-loop
     (search needs) (search needs) (search needs) (search needs) (search needs) (search needs)
-    (search needs) (search needs) (search needs)
+    (search needs) (search needs) (search needs) (search needs)
     (λ c. simp length-set (omega arith))
     (search needs)
     (λ c. simp length-take (omega arith)))
