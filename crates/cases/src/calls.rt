@@ -1,0 +1,220 @@
+// The calls that steps make, each with the line that it prints.
+use crate::print::digest;
+use exchange::State;
+use given::Bench;
+use given::ROOM;
+use given::low;
+use libc::STDOUT_FILENO;
+use program::print;
+use program::print_number;
+use program::text::limited;
+use program::text::write_line;
+ghost use mathlib.Core.Path.{_≡_};
+ghost use lib.ListN.{length};
+
+// The steps that call, by their lines in `given::STEPS`.
+const READ: usize = 11;
+
+const WRITE: usize = 12;
+
+const ROW: usize = 13;
+
+const START: usize = 14;
+
+const HOST: usize = 15;
+
+const KEY: usize = 16;
+
+const BOUNDARY: usize = 17;
+
+const MAP: usize = 18;
+
+// what every octet of an output holds before a call
+const BEFORE: u8 = 170;
+
+// the names of what a read answers
+const NAMES: [u8; 76] =
+    *b" place \n start \n whole \n used \n lost \n words \n compared \n errored \n farend \n";
+
+// what a read answers, and the digests of its outputs
+fn show_read(label: &[u8], r: read::Reading, payload: &[u8], slot0: &[u8]) {
+    let counts = [
+        r.place,
+        r.start,
+        r.whole,
+        r.used,
+        r.lost,
+        r.words,
+        r.compared,
+        r.errored,
+        r.farend,
+    ];
+    print(label);
+    print_number(b": ", r.number);
+    for i in 0..9 {
+        write_line(STDOUT_FILENO, &NAMES, i as u64);
+        print_number(b"", counts[i] as u64);
+    }
+    digest(b" payload ", payload);
+    digest(b" slot0 ", slot0);
+    print(b"\n");
+}
+
+fn read_into(label: &[u8], image: &[u8], payload: &mut [u8], slot0: &mut [u8]) {
+    let r = read::read(image, payload, slot0);
+    show_read(label, r, payload, slot0);
+}
+
+fn read(label: &[u8], image: [u8; 8193], bench: Bench) {
+    let to = limited(bench.to, 8193);
+    let from = limited(bench.from, to);
+    let p = limited(bench.payload_room, 7936);
+    let s = limited(bench.slot0_room, 256);
+    let mut payload = [BEFORE; 7936];
+    let mut slot0 = [BEFORE; 256];
+    read_into(
+        label,
+        &image[from..to],
+        &mut payload[0..p],
+        &mut slot0[0..s],
+    );
+}
+
+// what a write answers, and the digest of its output
+fn show_write(label: &[u8], w: write::Written, out: &[u8]) {
+    print(label);
+    print_number(b": ", w.number);
+    print_number(b" check ", w.check);
+    digest(b" out ", out);
+    print(b"\n");
+}
+
+fn write_into(label: &[u8], payload: &[u8], overhead: &[u8], check: u64, out: &mut [u8]) {
+    let w = write::write(payload, overhead, check, out);
+    show_write(label, w, out);
+}
+
+// so many octets of a payload and of an overhead, a check, and an output of so many octets
+fn write(label: &[u8], payload: [u8; 8432], overhead: [u8; 136], row: &[u64; 8]) {
+    let p = limited(row[0], 8432);
+    let h = limited(row[1], 136);
+    let e = limited(row[3], 8704);
+    let mut out = [BEFORE; 8704];
+    write_into(
+        label,
+        &payload[0..p],
+        &overhead[0..h],
+        row[2],
+        &mut out[0..e],
+    );
+}
+
+// two multiframes in two writes, the second with the check of the first
+fn write_two(label: &[u8], payload: &[u8], overhead: &[u8], out: &mut [u8])
+    requires { ⌜ (length (now payload) ≡ 992) × (length (now overhead) ≡ 16) × (length (now out) ≡ 1024) ⌝ }
+{
+    let a = write::write(&payload[0..496], &overhead[0..8], 5, &mut out[0..512]);
+    let b = write::write(
+        &payload[496..992],
+        &overhead[8..16],
+        a.check,
+        &mut out[512..1024],
+    );
+    show_write(label, b, out);
+}
+
+fn row_of_two(label: &[u8], payload: [u8; 8432], overhead: [u8; 136]) {
+    let mut out = [BEFORE; 1024];
+    write_two(label, &payload[0..992], &overhead[0..16], &mut out);
+}
+
+// a call of the map and the key, as its step says it, and its number
+fn head(label: &[u8], step: &[u8], number: u64) {
+    print(label);
+    print(step);
+    print_number(b": ", number);
+}
+
+// a record of up to five octets
+fn host(label: &[u8], step: &[u8], state: State, row: &[u64; 8], n: usize) -> State {
+    let octets = [
+        low(row[0]),
+        low(row[1]),
+        low(row[2]),
+        low(row[3]),
+        low(row[4]),
+    ];
+    let e = limited(n as u64, 5);
+    let a = exchange::host(state, &octets[0..e]);
+    head(label, step, a.number);
+    print_number(b" entry ", a.entry as u64);
+    print(b"\n");
+    a.state
+}
+
+// a call that answers nothing but its number
+fn tell(label: &[u8], step: &[u8], a: exchange::Answered) -> State {
+    head(label, step, a.number);
+    print(b"\n");
+    a.state
+}
+
+fn map_into(label: &[u8], step: &[u8], state: State, payload: &[u8], out: &mut [u8]) {
+    let number = exchange::map_payload(state, payload, out);
+    head(label, step, number);
+    digest(b" out ", out);
+    print(b"\n");
+}
+
+// so many octets of a payload, into an output of so many
+fn map(label: &[u8], step: &[u8], state: State, payload: [u8; 8432], row: &[u64; 8]) {
+    let p = limited(row[0], 8432);
+    let e = limited(row[1], 8432);
+    let mut out = [BEFORE; 8432];
+    map_into(label, step, state, &payload[0..p], &mut out[0..e]);
+}
+
+// the state that a step leaves, by its line in the table and by the n numbers of a row
+pub fn call(
+    label: &[u8],
+    step: &[u8],
+    bench: Bench,
+    state: State,
+    k: usize,
+    row: &[u64; 8],
+    n: usize,
+) -> State {
+    let payload = bench.payload;
+    let overhead = bench.overhead;
+    let image = bench.image;
+    match k {
+        0..=ROOM => state,
+        READ => {
+            read(label, image, bench);
+            state
+        }
+        WRITE => {
+            write(label, payload, overhead, row);
+            state
+        }
+        ROW => {
+            row_of_two(label, payload, overhead);
+            state
+        }
+        START => exchange::start(),
+        HOST => host(label, step, state, row, n),
+        KEY => tell(label, step, exchange::key(state, row[0])),
+        BOUNDARY => tell(label, step, exchange::boundary(state)),
+        MAP => {
+            map(label, step, state, payload, row);
+            state
+        }
+        _ => {
+            print(label);
+            print(b": not understood:");
+            print(step);
+            print(b"\n");
+            state
+        }
+    }
+}
