@@ -1,39 +1,55 @@
 /*
- * Reads a line, from the file that is named or from standard input, and prints its report.
+ * Reads a line, from the file that is named or from standard input, and prints its report. It ends with status 0;
+ * with 1 where the line is refused; with 2 where the line could not be read or the report not be written.
  *
- *   rt staticlib jikhvanto
- *   gcc -std=c99 -Wall -Wextra -Werror -Iinclude include/example.c target/staticlib/libjikhvanto.a -o example
+ *   cc -Iinclude include/example.c target/staticlib/libjikhvanto.a -o example
  */
 #include <stdio.h>
 #include "jikhvanto.h"
 
-int main(int argc, char **argv)
-{
-    static const char *const name[] = {"place", "start", "whole", "used", "lost", "words", "compared", "errored", "farend"};
-    static uint8_t image[8193]; /* an image of more is refused by this one octet */
-    static uint8_t payload[16 * 496], slot0[16 * 16];
-    uint64_t answer[16], number;
-    FILE *in = argc > 1 ? fopen(argv[1], "rb") : stdin;
+enum status { READ, REFUSED, FAILED };
 
-    if (!in) {
-        perror(argv[1]);
-        return 1;
-    }
-    size_t n = fread(image, 1, sizeof image, in);
-    if (ferror(in)) {
-        perror("read");
-        return 1;
-    }
-    number = jk_read(image, n, payload, sizeof payload, slot0, sizeof slot0, answer);
-    if (number) {
-        printf("refused %llu\n", (unsigned long long)number);
-        return 0;
-    }
-    for (int i = 1; i <= 9; i++) {
-        if (i == 5 && answer[i] == 0)
+static enum status failed(const char *what)
+{
+    perror(what);
+    return FAILED;
+}
+
+static void print(const uint64_t answer[JK_ANSWER])
+{
+    static const char *const name[] = {
+        "place", "start", "whole", "used", "lost", "words", "compared", "errored", "farend"
+    };
+    int place;
+
+    for (place = JK_PLACE; place <= JK_FAREND; place++) {
+        if (place == JK_LOST && answer[place] == 0)
             printf("lost no\n");
         else
-            printf("%s %llu\n", name[i - 1], (unsigned long long)answer[i]);
+            printf("%s %lu\n", name[place - JK_PLACE], (unsigned long)answer[place]);
     }
-    return 0;
+}
+
+int main(int argc, char **argv)
+{
+    static uint8_t image[8192 + 1]; /* one more than are taken, so that a longer line is refused */
+    static uint8_t payload[16 * 496], slot0[16 * 16];
+    const char *from = argc > 1 ? argv[1] : "standard input";
+    FILE *in = argc > 1 ? fopen(from, "rb") : stdin;
+    uint64_t answer[JK_ANSWER], number;
+    size_t octets;
+
+    if (!in)
+        return failed(from);
+    octets = fread(image, 1, sizeof image, in);
+    if (ferror(in))
+        return failed(from);
+    number = jk_read(image, octets, payload, sizeof payload, slot0, sizeof slot0, answer);
+    if (number == JK_ACCEPTED)
+        print(answer);
+    else
+        printf("refused %lu\n", (unsigned long)number);
+    if (ferror(stdout) || fclose(stdout))
+        return failed("standard output");
+    return number == JK_ACCEPTED ? READ : REFUSED;
 }

@@ -1,21 +1,80 @@
 /*
  * Jikhvanto: E1 multiframes read and written, and the slot map with its key.
  *
- * Every call but jk_start returns its number: 0 where it is accepted, else that of the refusal. Where several refusals
- * apply, it is the first in the call's list below. An answer has 16 places: the number, the values, then zeros.
- * A refused call gives zeros in every other place and changes nothing else: no octet of an output, no octet of a state.
- * In an accepted call the octets of an output past those needed keep what they held.
+ * Every call but jk_start returns its number: JK_ACCEPTED, which is 0, or that of its refusal. Where several refusals
+ * apply, it is the first in the call's list below. An answer has JK_ANSWER places: the number, the values, then zeros.
+ * A refused call gives zeros in every other place of its answer and changes nothing else: no octet of an output, and no
+ * octet of a state. In an accepted call the octets of an output past those needed keep what they held.
  *
  * All this is proved of the library's source. It rests on what no proof of it can see, and you must keep:
  *   - every pointer is valid for its length, and none is NULL, even where its length is 0;
  *   - a buffer that a call writes overlaps no other buffer of that call.
  * The library holds nothing between calls, so calls on buffers of their own may run side by side.
+ *
+ * From one version to the next no number and no place of an answer changes its meaning. New ones are only ever added at
+ * the end: numbers after the last, places after a call's last value, where today it gives zeros.
  */
 #ifndef JIKHVANTO_H
 #define JIKHVANTO_H
 
 #include <stddef.h>
 #include <stdint.h>
+
+#define JK_VERSION_MAJOR 0
+#define JK_VERSION_MINOR 1
+#define JK_VERSION_PATCH 0
+#define JK_VERSION "0.1.0"
+
+#define JK_ANSWER 16 /* places of an answer */
+#define JK_STATE 99  /* octets of a state */
+
+/* The numbers. */
+enum jk_number {
+    JK_ACCEPTED = 0,
+    JK_SHORT_IMAGE = 1,     /* the image is under 2,048 octets */
+    JK_LONG_IMAGE = 2,      /* the image is over 8,192 octets */
+    JK_NO_PLACE = 3,        /* no place of the image stands */
+    JK_SHORT_OUTPUT = 4,    /* an output is shorter than the call needs */
+    JK_BAD_PAYLOAD = 5,     /* the payload isn't 496n octets, n from 1 to 16 */
+    JK_BAD_OVERHEAD = 6,    /* the overhead isn't 8n octets, or one has a bit that must be 0 */
+    JK_BAD_CHECK = 7,       /* the carried check is over 15 */
+    JK_BAD_RECORD = 8,      /* the record isn't 4 octets */
+    JK_BAD_KIND = 9,        /* the kind isn't 1 to 4 */
+    JK_BAD_SLOT = 10,       /* kind 1 or 3 with a not 1 to 31, or kind 1 with b over 31 */
+    JK_KEY_OFF = 11,        /* kind 1, 2 or 4 with the flag off */
+    JK_NOTHING_STAGED = 12, /* kind 2 or 4 with nothing staged */
+    JK_BAD_POSITION = 13    /* the key's position isn't 0 or 1 */
+};
+
+/* The places of an answer; the number is in place 0 of each. */
+enum jk_place {
+    JK_NUMBER = 0,
+
+    /* jk_read */
+    JK_PLACE = 1,    /* the bit at which alignment stands */
+    JK_START = 2,    /* the bit at which the first multiframe starts */
+    JK_WHOLE = 3,    /* whole multiframes from there to the end of the image */
+    JK_USED = 4,     /* those before the one in which alignment is lost */
+    JK_LOST = 5,     /* the frame, numbered from the start, at which it is lost; 0 where it is not */
+    JK_WORDS = 6,    /* wrong alignment words in the multiframes used */
+    JK_COMPARED = 7, /* blocks compared with the check bits after them */
+    JK_ERRORED = 8,  /* those of them that differ */
+    JK_FAREND = 9,   /* E bits that are 0, in multiframes whose second block was compared and agreed */
+
+    /* jk_write */
+    JK_CHECK = 1,    /* the check of the last block, for the next call */
+
+    /* jk_host */
+    JK_ENTRY = 1     /* the entry that a record of kind 3 reads, 0 for any other */
+};
+
+/* The kinds of a host's record. */
+enum jk_kind {
+    JK_KIND_STAGE = 1,  /* sets staged entry a to b; where nothing is staged, a copy of the live map is staged first */
+    JK_KIND_COMMIT = 2, /* makes the staged map the waiting one, in place of any that waits */
+    JK_KIND_READ = 3,   /* reads live entry a */
+    JK_KIND_DROP = 4    /* drops the staged map */
+};
 
 #ifdef __cplusplus
 extern "C" {
@@ -24,63 +83,49 @@ extern "C" {
 /*
  * Reads an image, whose bit 0 is the most significant bit of its first octet, from the first place that stands.
  * payload takes slots 1 to 31, 496 octets a multiframe used, and slot0 takes 16 a multiframe: 7,936 and 256 always do.
- * answer: 1 place   the bit at which alignment stands
- *         2 start   the bit at which the first multiframe starts
- *         3 whole   whole multiframes from there to the end of the image
- *         4 used    those before the one in which alignment is lost
- *         5 lost    the frame, numbered from the start, at which it is lost; 0 where it is not
- *         6 words   wrong alignment words in the multiframes used
- *         7 compared  blocks compared with the check bits after them
- *         8 errored   those of them that differ
- *         9 farend  E bits that are 0, in multiframes whose second block was compared and agreed
- * Refused: 1 the image is under 2,048 octets
- *          2 it is over 8,192 octets
- *          3 no place stands
- *          4 an output is shorter than the call needs
+ * answer: JK_PLACE to JK_FAREND
+ * Refused: 1 JK_SHORT_IMAGE, 2 JK_LONG_IMAGE, 3 JK_NO_PLACE, 4 JK_SHORT_OUTPUT
  */
-uint64_t jk_read(const uint8_t *image, size_t n, uint8_t *payload, size_t np, uint8_t *slot0, size_t ns, uint64_t answer[16]);
+uint64_t jk_read(const uint8_t *image, size_t image_octets,
+                 uint8_t *payload, size_t payload_octets,
+                 uint8_t *slot0, size_t slot0_octets,
+                 uint64_t answer[JK_ANSWER]);
 
 /*
  * Writes n multiframes, n from 1 to 16, from a payload of 496n octets and 8n octets of overhead to 512n octets of out.
  * An overhead octet is for one odd frame: A and Sa4 to Sa8 are its low six bits, A the highest of them; for frames 13
  * and 15 the bit worth 64 is E; all other bits are 0. check is that of the block before.
- * answer: 1 the check of the last block, for the next call
- * Refused: 5 the payload isn't 496n octets
- *          6 the overhead isn't 8n octets, or one has a bit that must be 0
- *          7 check is over 15
- *          4 out is shorter than the call needs
+ * answer: JK_CHECK
+ * Refused: 5 JK_BAD_PAYLOAD, 6 JK_BAD_OVERHEAD, 7 JK_BAD_CHECK, 4 JK_SHORT_OUTPUT
  */
-uint64_t jk_write(const uint8_t *payload, size_t np, const uint8_t *overhead, size_t no, uint64_t check, uint8_t *out, size_t n, uint64_t answer[16]);
+uint64_t jk_write(const uint8_t *payload, size_t payload_octets,
+                  const uint8_t *overhead, size_t overhead_octets,
+                  uint64_t check,
+                  uint8_t *out, size_t out_octets,
+                  uint64_t answer[JK_ANSWER]);
 
 /*
  * The state of the map and the key, in octets that you lend: the flag; whether a map is staged; whether one waits; then
  * the live, the staged and the waiting map, 32 octets each, the entry of output slot j at its index j.
  * Any octets are a state: each of the first three is off unless it is 1, and an entry over 31 counts as 0.
- * A refused call leaves every octet as it was; an accepted jk_host, jk_key or jk_boundary leaves the first three 0 or 1.
+ * A refused call, and a record that only reads, leave every octet of the state as it was. Any other accepted call of
+ * jk_host, jk_key or jk_boundary leaves the first three 0 or 1.
+ *
+ * jk_start makes the first state: the flag off, nothing staged, nothing waiting, and slot j taking from j.
  */
-#define JK_STATE 99
-
-/* The flag off, nothing staged, nothing waiting, and slot j taking from j. */
 void jk_start(uint8_t state[JK_STATE]);
 
 /*
- * Takes a host's record: kind, a, b, host number, which changes nothing.
- *   kind 1 sets staged entry a to b; where nothing is staged, a copy of the live map is staged first
- *   kind 2 makes the staged map the waiting one, in place of any that waits
- *   kind 3 reads live entry a
- *   kind 4 drops the staged map
- * answer: 1 the entry, for kind 3
- * Refused: 8 the record isn't 4 octets
- *          9 the kind isn't 1 to 4
- *         10 kind 1 or 3 with a not 1 to 31, or kind 1 with b over 31
- *         11 kind 1, 2 or 4 with the flag off
- *         12 kind 2 or 4 with nothing staged
+ * Takes a host's record, 4 octets: kind, a, b, host number. a is an output slot, b an input slot or 0 for idle; those
+ * that the kind does not use, and the host number, change nothing.
+ * answer: JK_ENTRY
+ * Refused: 8 JK_BAD_RECORD, 9 JK_BAD_KIND, 10 JK_BAD_SLOT, 11 JK_KEY_OFF, 12 JK_NOTHING_STAGED
  */
-uint64_t jk_host(uint8_t state[JK_STATE], const uint8_t *record, size_t n, uint64_t answer[16]);
+uint64_t jk_host(uint8_t state[JK_STATE], const uint8_t *record, size_t record_octets, uint64_t answer[JK_ANSWER]);
 
 /*
  * Turns the key: to 1 it sets the flag; to 0 it clears it and drops the staged and the waiting map.
- * Refused: 13 the position isn't 0 or 1
+ * Refused: 13 JK_BAD_POSITION
  */
 uint64_t jk_key(uint8_t state[JK_STATE], uint64_t position);
 
@@ -90,10 +135,11 @@ uint64_t jk_boundary(uint8_t state[JK_STATE]);
 /*
  * Puts every frame of a payload of 496n octets, n from 1 to 16, through the live map into as many octets of out:
  * output slot j holds the input slot that entry j names, or 255 where that is 0.
- * Refused: 5 the payload isn't 496n octets
- *          4 out is shorter than the call needs
+ * Refused: 5 JK_BAD_PAYLOAD, 4 JK_SHORT_OUTPUT
  */
-uint64_t jk_map(const uint8_t state[JK_STATE], const uint8_t *payload, size_t np, uint8_t *out, size_t n);
+uint64_t jk_map(const uint8_t state[JK_STATE],
+                const uint8_t *payload, size_t payload_octets,
+                uint8_t *out, size_t out_octets);
 
 #ifdef __cplusplus
 }

@@ -1,4 +1,4 @@
-/* Calls every function, refused and accepted, and prints ok; built as example.c is. */
+/* Calls every function, with each of its refusals and accepted, and prints ok; built as example.c is. */
 #include <stdio.h>
 #include <string.h>
 #include "jikhvanto.h"
@@ -6,62 +6,112 @@
 static int failed;
 #define EXPECT(x) ((x) ? (void)0 : (void)(failed = 1, printf("line %d: %s\n", __LINE__, #x)))
 
-static uint8_t payload[4 * 496], overhead[4 * 8], line[4 * 512], back[4 * 496 + 1], slot0[4 * 16];
-static uint64_t answer[16];
-static const uint64_t zeros[15];
+enum { BEFORE = 0xAA, N = 4 };
+static uint8_t payload[N * 496], overhead[N * 8], image[8193], back[N * 496 + 1], slot0[N * 16];
+static uint64_t answer[JK_ANSWER];
 
-static int refused(uint64_t r, uint64_t number)
+/* Whether the number is returned and answered, the value after it, and zeros behind. */
+static int answered(uint64_t returned, uint64_t number, uint64_t value)
 {
-    return r == number && answer[0] == number && !memcmp(answer + 1, zeros, sizeof zeros);
+    int place, zeros = 1;
+
+    for (place = 2; place < JK_ANSWER; place++)
+        zeros &= answer[place] == 0;
+    return returned == number && answer[JK_NUMBER] == number && answer[1] == value && zeros;
 }
 
-static void lines(void)
-{
-    static const uint64_t clean[16] = {0, 0, 0, 4, 4, 0, 0, 7};
+#define ANSWERED(call, number, value) EXPECT((memset(answer, BEFORE, sizeof answer), answered(call, number, value)))
+#define REFUSED(call, number) ANSWERED(call, number, 0)
 
-    for (size_t i = 0; i < sizeof payload; i++)
+static int untouched(const uint8_t *octets, size_t count)
+{
+    while (count > 0 && octets[count - 1] == BEFORE)
+        count--;
+    return count == 0;
+}
+
+static void writing(void)
+{
+    size_t i;
+    uint64_t check;
+
+    for (i = 0; i < sizeof payload; i++)
         payload[i] = (uint8_t)(i * 7 + i / 31);
-    for (size_t h = 0; h < sizeof overhead; h++)
-        overhead[h] = h % 8 < 6 ? 0x1f : 0x5f;
-    EXPECT(refused(jk_write(payload, 495, overhead, 8, 0, line, sizeof line, answer), 5));
-    EXPECT(refused(jk_write(payload, 496, overhead, 9, 0, line, sizeof line, answer), 6));
-    EXPECT(refused(jk_write(payload, 496, overhead, 8, 16, line, sizeof line, answer), 7));
-    EXPECT(refused(jk_write(payload, sizeof payload, overhead, sizeof overhead, 0, line, 2047, answer), 4));
-    EXPECT(refused(jk_read(line, sizeof line, back, sizeof back, slot0, sizeof slot0, answer), 3));
-    EXPECT(jk_write(payload, sizeof payload, overhead, sizeof overhead, 0, line, sizeof line, answer) == 0);
-    EXPECT(refused(jk_read(line, 2047, back, sizeof back, slot0, sizeof slot0, answer), 1));
-    EXPECT(refused(jk_read(line, sizeof line, back, sizeof back, slot0, 63, answer), 4));
-    back[sizeof payload] = 9;
-    EXPECT(jk_read(line, sizeof line, back, sizeof back, slot0, sizeof slot0, answer) == 0);
-    EXPECT(!memcmp(answer, clean, sizeof clean) && !memcmp(back, payload, sizeof payload) && back[sizeof payload] == 9);
+    for (i = 0; i < sizeof overhead; i++)
+        overhead[i] = i % 8 < 6 ? 0x1F : 0x5F;
+    memset(image, BEFORE, sizeof image);
+    REFUSED(jk_write(payload, 495, overhead, 8, 0, image, 512, answer), JK_BAD_PAYLOAD);
+    REFUSED(jk_write(payload, 496, overhead, 9, 0, image, 512, answer), JK_BAD_OVERHEAD);
+    REFUSED(jk_write(payload, 496, overhead, 8, 16, image, 512, answer), JK_BAD_CHECK);
+    REFUSED(jk_write(payload, 496, overhead, 8, 0, image, 511, answer), JK_SHORT_OUTPUT);
+    EXPECT(untouched(image, sizeof image));
+
+    /* one multiframe, its check handed on, and the rest */
+    EXPECT(jk_write(payload, 496, overhead, 8, 0, image, sizeof image, answer) == JK_ACCEPTED);
+    EXPECT(untouched(image + 512, sizeof image - 512));
+    check = answer[JK_CHECK];
+    EXPECT(jk_write(payload + 496, 3 * 496, overhead + 8, 3 * 8, check, image + 512, 3 * 512, answer) == JK_ACCEPTED);
+    EXPECT(untouched(image + N * 512, sizeof image - N * 512));
+}
+
+static void reading(void)
+{
+    static const uint64_t clean[JK_ANSWER] = {JK_ACCEPTED, 0, 0, N, N, 0, 0, 2 * N - 1, 0, 0};
+    static const uint8_t zeros[2048] = {0};
+
+    memset(back, BEFORE, sizeof back);
+    memset(slot0, BEFORE, sizeof slot0);
+    REFUSED(jk_read(image, 2047, back, sizeof back, slot0, sizeof slot0, answer), JK_SHORT_IMAGE);
+    REFUSED(jk_read(image, 8193, back, sizeof back, slot0, sizeof slot0, answer), JK_LONG_IMAGE);
+    REFUSED(jk_read(zeros, 2048, back, sizeof back, slot0, sizeof slot0, answer), JK_NO_PLACE);
+    REFUSED(jk_read(image, 2048, back, sizeof back, slot0, sizeof slot0 - 1, answer), JK_SHORT_OUTPUT);
+    EXPECT(untouched(back, sizeof back) && untouched(slot0, sizeof slot0));
+
+    EXPECT(jk_read(image, N * 512, back, sizeof back, slot0, sizeof slot0, answer) == JK_ACCEPTED);
+    EXPECT(!memcmp(answer, clean, sizeof clean) && !memcmp(back, payload, sizeof payload));
+    EXPECT(untouched(back + sizeof payload, 1) && slot0[0] == image[0] && slot0[63] == image[63 * 32]);
 }
 
 static void map_and_key(void)
 {
-    static const uint8_t stage[4] = {1, 5, 9, 0}, commit[4] = {2, 0, 0, 0}, look[4] = {3, 5, 0, 0};
+    static const uint8_t stage[4] = {JK_KIND_STAGE, 5, 9, 0}, commit[4] = {JK_KIND_COMMIT, 0, 0, 0};
+    static const uint8_t look[4] = {JK_KIND_READ, 5, 0, 0}, drop[4] = {JK_KIND_DROP, 0, 0, 0};
+    static const uint8_t unknown[4] = {5, 5, 9, 0}, outside[4] = {JK_KIND_STAGE, 5, 32, 0};
     uint8_t state[JK_STATE], was[JK_STATE];
 
     jk_start(state);
-    state[0] = 7; /* no 1, so the flag is off, and a refusal leaves it */
+    state[0] = 7; /* no 1, so the flag is off, and neither a reading nor a refusal sets it */
     memcpy(was, state, sizeof was);
-    EXPECT(refused(jk_host(state, stage, 4, answer), 11));
-    EXPECT(refused(jk_host(state, stage, 3, answer), 8));
-    EXPECT(jk_key(state, 256) == 13);
+    ANSWERED(jk_host(state, look, 4, answer), JK_ACCEPTED, 5);
+    REFUSED(jk_host(state, stage, 3, answer), JK_BAD_RECORD);
+    REFUSED(jk_host(state, unknown, 4, answer), JK_BAD_KIND);
+    REFUSED(jk_host(state, outside, 4, answer), JK_BAD_SLOT);
+    REFUSED(jk_host(state, stage, 4, answer), JK_KEY_OFF);
+    EXPECT(jk_key(state, 256) == JK_BAD_POSITION);
     EXPECT(!memcmp(state, was, sizeof was));
-    EXPECT(jk_host(state, look, 4, answer) == 0 && answer[1] == 5 && state[0] == 0);
-    EXPECT(jk_key(state, 1) == 0 && state[0] == 1);
-    EXPECT(refused(jk_host(state, commit, 4, answer), 12));
-    EXPECT(jk_host(state, stage, 4, answer) == 0 && jk_host(state, commit, 4, answer) == 0);
-    EXPECT(jk_boundary(state) == 0);
-    EXPECT(jk_host(state, look, 4, answer) == 0 && answer[1] == 9);
-    EXPECT(jk_map(state, payload, 497, back, sizeof back) == 5);
-    EXPECT(jk_map(state, payload, 496, back, 495) == 4);
-    EXPECT(jk_map(state, payload, 496, back, sizeof back) == 0 && back[4] == payload[8] && back[5] == payload[5]);
+
+    EXPECT(jk_key(state, 1) == JK_ACCEPTED && state[0] == 1);
+    REFUSED(jk_host(state, commit, 4, answer), JK_NOTHING_STAGED);
+    ANSWERED(jk_host(state, stage, 4, answer), JK_ACCEPTED, 0);
+    ANSWERED(jk_host(state, drop, 4, answer), JK_ACCEPTED, 0);
+    ANSWERED(jk_host(state, stage, 4, answer), JK_ACCEPTED, 0);
+    ANSWERED(jk_host(state, commit, 4, answer), JK_ACCEPTED, 0);
+    ANSWERED(jk_host(state, look, 4, answer), JK_ACCEPTED, 5);
+    EXPECT(jk_boundary(state) == JK_ACCEPTED);
+    ANSWERED(jk_host(state, look, 4, answer), JK_ACCEPTED, 9);
+
+    memset(back, BEFORE, sizeof back);
+    EXPECT(jk_map(state, payload, 497, back, sizeof back) == JK_BAD_PAYLOAD);
+    EXPECT(jk_map(state, payload, 496, back, 495) == JK_SHORT_OUTPUT);
+    EXPECT(untouched(back, sizeof back));
+    EXPECT(jk_map(state, payload, 496, back, sizeof back) == JK_ACCEPTED);
+    EXPECT(back[4] == payload[8] && back[5] == payload[5] && untouched(back + 496, sizeof back - 496));
 }
 
 int main(void)
 {
-    lines();
+    writing();
+    reading();
     map_and_key();
     if (!failed)
         printf("ok\n");
