@@ -1,0 +1,110 @@
+#![doc = include_str!("../README.md")]
+#![warn(missing_docs)]
+
+mod refusal;
+mod state;
+pub mod sys;
+
+pub use refusal::Refusal;
+pub use state::{kind, State};
+
+use refusal::accepted;
+use sys::ANSWER;
+
+/// What a line that is read has.
+#[derive(Clone, Copy, Debug, PartialEq, Eq)]
+#[non_exhaustive]
+pub struct Reading {
+    /// The bit at which alignment stands.
+    pub place: usize,
+    /// The bit at which the first multiframe starts.
+    pub start: usize,
+    /// Whole multiframes from there to the end of the image.
+    pub whole: usize,
+    /// Those before the one in which alignment is lost.
+    pub used: usize,
+    /// The frame, numbered from the start, at which alignment is lost.
+    pub lost: Option<usize>,
+    /// Wrong alignment words in the multiframes used.
+    pub words: usize,
+    /// Blocks compared with the check bits after them.
+    pub compared: usize,
+    /// Those of them that differ.
+    pub errored: usize,
+    /// E bits that are 0, in multiframes whose second block was compared and
+    /// agreed.
+    pub farend: usize,
+}
+
+/// Reads an image, whose bit 0 is the most significant bit of its first octet,
+/// from the first place that stands.
+///
+/// `payload` takes slots 1 to 31, 496 octets a multiframe used, and `slot0`
+/// takes 16 a multiframe: 7,936 and 256 always do. Octets past those needed
+/// keep what they held.
+///
+/// # Errors
+///
+/// In this order [`ShortImage`](Refusal::ShortImage),
+/// [`LongImage`](Refusal::LongImage), [`NoPlace`](Refusal::NoPlace) and
+/// [`ShortOutput`](Refusal::ShortOutput). Nothing is written then.
+pub fn read(image: &[u8], payload: &mut [u8], slot0: &mut [u8]) -> Result<Reading, Refusal> {
+    let mut answer = [0; ANSWER];
+    // SAFETY: every pointer comes with the length of its own slice.
+    accepted(unsafe {
+        sys::jk_read(
+            image.as_ptr(),
+            image.len(),
+            payload.as_mut_ptr(),
+            payload.len(),
+            slot0.as_mut_ptr(),
+            slot0.len(),
+            &mut answer,
+        )
+    })?;
+    let [_, place, start, whole, used, lost, words, compared, errored, farend, ..] =
+        answer.map(|value| value as usize);
+    Ok(Reading {
+        place,
+        start,
+        whole,
+        used,
+        lost: Some(lost).filter(|frame| *frame != 0),
+        words,
+        compared,
+        errored,
+        farend,
+    })
+}
+
+/// Writes n multiframes, n from 1 to 16, from a payload of 496n octets and 8n
+/// octets of overhead to 512n octets of `out`. It answers the check of the
+/// last block, for the next call.
+///
+/// An overhead octet is for one odd frame: A and Sa4 to Sa8 are its low six
+/// bits, A the highest of them; for frames 13 and 15 the bit worth 64 is E; all
+/// other bits are 0. `check` is that of the block before. Octets of `out` past
+/// those needed keep what they held.
+///
+/// # Errors
+///
+/// In this order [`BadPayload`](Refusal::BadPayload),
+/// [`BadOverhead`](Refusal::BadOverhead), [`BadCheck`](Refusal::BadCheck) and
+/// [`ShortOutput`](Refusal::ShortOutput). Nothing is written then.
+pub fn write(payload: &[u8], overhead: &[u8], check: u64, out: &mut [u8]) -> Result<u64, Refusal> {
+    let mut answer = [0; ANSWER];
+    // SAFETY: every pointer comes with the length of its own slice.
+    accepted(unsafe {
+        sys::jk_write(
+            payload.as_ptr(),
+            payload.len(),
+            overhead.as_ptr(),
+            overhead.len(),
+            check,
+            out.as_mut_ptr(),
+            out.len(),
+            &mut answer,
+        )
+    })?;
+    Ok(answer[1])
+}

@@ -1,0 +1,127 @@
+//! Every call, accepted and with each of its refusals.
+
+use jikhvanto::{kind, read, write, Refusal, State};
+
+const BEFORE: u8 = 0xAA;
+
+fn payload(n: usize) -> Vec<u8> {
+    (0..496 * n).map(|i| (7 * i + i / 31) as u8).collect()
+}
+
+/// Written multiframes with E bits 1.
+fn line(n: usize) -> Vec<u8> {
+    let overhead = [31, 31, 31, 31, 31, 31, 95, 95].repeat(n);
+    let mut line = vec![0; 512 * n];
+    write(&payload(n), &overhead, 0, &mut line).unwrap();
+    line
+}
+
+#[test]
+fn a_line_is_read_as_it_was_written() {
+    let (mut slots, mut slot0) = ([BEFORE; 4 * 496 + 1], [BEFORE; 4 * 16]);
+    let r = read(&line(4), &mut slots, &mut slot0).unwrap();
+    assert_eq!((r.place, r.start, r.whole, r.used), (0, 0, 4, 4));
+    assert_eq!((r.lost, r.words, r.compared), (None, 0, 7));
+    assert_eq!((r.errored, r.farend), (0, 0));
+    assert_eq!(slots[..4 * 496], payload(4));
+    assert_eq!(slots[4 * 496], BEFORE);
+    assert!(slot0
+        .iter()
+        .zip(line(4).chunks(32))
+        .all(|(s, f)| *s == f[0]));
+}
+
+#[test]
+fn a_loss_is_read() {
+    let mut line = line(4);
+    for frame in [28, 30, 32] {
+        line[32 * frame] ^= 1;
+    }
+    let r = read(&line, &mut [0; 7_936], &mut [0; 256]).unwrap();
+    assert_eq!((r.whole, r.used, r.lost, r.words), (4, 2, Some(32), 2));
+}
+
+#[test]
+fn a_check_is_handed_on() {
+    let (payload, overhead) = (payload(2), [0; 16]);
+    let (mut whole, mut parts) = ([0; 1_024], [0; 1_024]);
+    let last = write(&payload, &overhead, 5, &mut whole);
+    let first = write(&payload[..496], &overhead[..8], 5, &mut parts[..512]).unwrap();
+    assert_eq!(
+        write(&payload[496..], &overhead[8..], first, &mut parts[512..]),
+        last
+    );
+    assert_eq!(parts, whole);
+}
+
+#[test]
+fn reads_are_refused() {
+    let line = line(16);
+    let refused = |image: &[u8], room, room0| {
+        let (mut slots, mut slot0) = (vec![BEFORE; room], vec![BEFORE; room0]);
+        let refusal = read(image, &mut slots, &mut slot0).unwrap_err();
+        assert!(slots.iter().chain(&slot0).all(|octet| *octet == BEFORE));
+        refusal
+    };
+    assert_eq!(refused(&line[..2_047], 7_936, 256), Refusal::ShortImage);
+    assert_eq!(refused(&[0; 8_193], 7_936, 256), Refusal::LongImage);
+    assert_eq!(refused(&[0; 8_192], 7_936, 256), Refusal::NoPlace);
+    assert_eq!(refused(&line, 7_935, 256), Refusal::ShortOutput);
+    assert_eq!(refused(&line, 7_936, 255), Refusal::ShortOutput);
+    assert_eq!(refused(&[], 0, 0), Refusal::ShortImage);
+}
+
+#[test]
+fn writes_are_refused() {
+    let payload = payload(1);
+    let refused = |payload: &[u8], overhead: &[u8], check, room| {
+        let mut out = vec![BEFORE; room];
+        let refusal = write(payload, overhead, check, &mut out).unwrap_err();
+        assert!(out.iter().all(|octet| *octet == BEFORE));
+        refusal
+    };
+    assert_eq!(refused(&payload[1..], &[0; 8], 0, 512), Refusal::BadPayload);
+    assert_eq!(refused(&payload, &[0; 9], 0, 512), Refusal::BadOverhead);
+    assert_eq!(refused(&payload, &[64; 8], 0, 512), Refusal::BadOverhead);
+    assert_eq!(refused(&payload, &[0; 8], 16, 512), Refusal::BadCheck);
+    assert_eq!(refused(&payload, &[0; 8], 0, 511), Refusal::ShortOutput);
+}
+
+#[test]
+fn the_key_and_the_map() {
+    let mut state = State::new();
+    let stage = [kind::STAGE, 5, 9, 0];
+    let commit = [kind::COMMIT, 0, 0, 0];
+    let look = [kind::READ, 5, 0, 0];
+    let drop = [kind::DROP, 0, 0, 0];
+
+    let before = *state.octets();
+    assert_eq!(state.host(&look), Ok(5));
+    assert_eq!(state.host(&stage[..3]), Err(Refusal::BadRecord));
+    assert_eq!(state.host(&[0, 5, 9, 0]), Err(Refusal::BadKind));
+    assert_eq!(state.host(&[kind::STAGE, 5, 32, 0]), Err(Refusal::BadSlot));
+    assert_eq!(state.host(&stage), Err(Refusal::KeyOff));
+    assert_eq!(state.key(2), Err(Refusal::BadPosition));
+    assert_eq!(*state.octets(), before);
+
+    assert_eq!(state.key(1), Ok(()));
+    assert_eq!(state.host(&drop), Err(Refusal::NothingStaged));
+    assert_eq!(state.host(&stage), Ok(0));
+    assert_eq!(state.host(&drop), Ok(0));
+    assert_eq!(state.host(&stage), Ok(0));
+    assert_eq!(state.host(&commit), Ok(0));
+    assert_eq!(state.host(&look), Ok(5));
+    state.boundary();
+    assert_eq!(state.host(&look), Ok(9));
+
+    let payload = payload(1);
+    let mut out = [BEFORE; 497];
+    assert_eq!(state.map(&payload[1..], &mut out), Err(Refusal::BadPayload));
+    assert_eq!(
+        state.map(&payload, &mut out[..495]),
+        Err(Refusal::ShortOutput)
+    );
+    assert_eq!(out, [BEFORE; 497]);
+    assert_eq!(state.map(&payload, &mut out), Ok(()));
+    assert_eq!((out[4], out[5], out[496]), (payload[8], payload[5], BEFORE));
+}

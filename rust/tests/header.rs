@@ -1,0 +1,84 @@
+//! The names, the numbers and the version are those of the C header.
+
+use jikhvanto::{kind, sys, Refusal};
+
+const HEADER: &str = include_str!("../../include/jikhvanto.h");
+
+/// The names of an enum of the header, without `JK_`, and their numbers.
+fn named(of: &str) -> Vec<(&'static str, u64)> {
+    let (_, behind) = HEADER.split_once(&format!("enum {of} {{")).unwrap();
+    let (inside, _) = behind.split_once("};").unwrap();
+    inside
+        .lines()
+        .filter_map(|line| line.trim().strip_prefix("JK_"))
+        .map(pair)
+        .collect()
+}
+
+/// `NAME = 1, ..`
+fn pair(text: &'static str) -> (&'static str, u64) {
+    let (name, behind) = text.split_once(" = ").unwrap();
+    let number = behind.split(|c: char| !c.is_ascii_digit()).next().unwrap();
+    (name, number.parse().unwrap())
+}
+
+/// `KeyOff` as the header writes it, `KEY_OFF`.
+fn shouted(name: &str) -> String {
+    let mut shouted = String::new();
+    for letter in name.chars() {
+        if letter.is_uppercase() && !shouted.is_empty() {
+            shouted.push('_');
+        }
+        shouted.push(letter.to_ascii_uppercase());
+    }
+    shouted
+}
+
+#[test]
+fn refusals() {
+    let named = named("jk_number");
+    assert_eq!(named[0], ("ACCEPTED", 0));
+    assert_eq!(Refusal::from_number(0), None);
+    for (name, number) in &named[1..] {
+        let refusal = Refusal::from_number(*number).unwrap();
+        assert_eq!(shouted(&format!("{refusal:?}")), *name);
+        assert_eq!(refusal.number(), *number);
+        assert!(!refusal.to_string().is_empty());
+    }
+    assert_eq!(named.len(), 14);
+    assert_eq!(Refusal::from_number(14), None);
+}
+
+#[test]
+fn kinds() {
+    let kinds = [
+        ("KIND_STAGE", kind::STAGE.into()),
+        ("KIND_COMMIT", kind::COMMIT.into()),
+        ("KIND_READ", kind::READ.into()),
+        ("KIND_DROP", kind::DROP.into()),
+    ];
+    assert_eq!(named("jk_kind"), kinds);
+}
+
+#[test]
+fn lengths_and_version() {
+    let says = |text: String| assert!(HEADER.contains(&text), "{text}");
+    says(format!("#define JK_ANSWER {} ", sys::ANSWER));
+    says(format!("#define JK_STATE {} ", sys::STATE));
+    says(format!(
+        "#define JK_VERSION \"{}\"\n",
+        env!("CARGO_PKG_VERSION")
+    ));
+    says(format!(
+        "#define JK_VERSION_MAJOR {}\n",
+        env!("CARGO_PKG_VERSION_MAJOR")
+    ));
+    says(format!(
+        "#define JK_VERSION_MINOR {}\n",
+        env!("CARGO_PKG_VERSION_MINOR")
+    ));
+    says(format!(
+        "#define JK_VERSION_PATCH {}\n",
+        env!("CARGO_PKG_VERSION_PATCH")
+    ));
+}
