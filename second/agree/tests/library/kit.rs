@@ -1,0 +1,90 @@
+//! The proved library in the shape of the oracle, through its safe binding.
+//! Each read and write is made once more through the C interface: the number
+//! returned, all places of the answer, which are set beforehand, and every
+//! octet must be what the binding says.
+
+use jikhvanto::sys::{self, ANSWER};
+use oracle::{Reading, Written};
+
+/// What a call leaves in the places of its answer.
+pub fn answered(call: impl FnOnce(&mut [u64; ANSWER]) -> u64) -> [u64; ANSWER] {
+    let mut answer = [0xAAAA_AAAA_AAAA_AAAA; ANSWER];
+    let number = call(&mut answer);
+    assert_eq!(number, answer[0], "returned and answered");
+    answer
+}
+
+/// The values, and zeros behind.
+pub fn places<const N: usize>(values: [u64; N]) -> [u64; ANSWER] {
+    let mut places = [0; ANSWER];
+    places[..N].copy_from_slice(&values);
+    places
+}
+
+pub fn read(image: &[u8], payload: &mut [u8], slot0: &mut [u8]) -> Reading {
+    let (mut c_payload, mut c_slot0) = (payload.to_vec(), slot0.to_vec());
+    // SAFETY: every pointer comes with the length of its own slice.
+    let answer = answered(|answer| unsafe {
+        sys::jk_read(
+            image.as_ptr(),
+            image.len(),
+            c_payload.as_mut_ptr(),
+            c_payload.len(),
+            c_slot0.as_mut_ptr(),
+            c_slot0.len(),
+            answer,
+        )
+    });
+    let r = match jikhvanto::read(image, payload, slot0) {
+        Ok(r) => Reading {
+            number: 0,
+            place: r.place as u64,
+            start: r.start as u64,
+            whole: r.whole as u64,
+            used: r.used as u64,
+            lost: r.lost.unwrap_or(0) as u64,
+            words: r.words as u64,
+            compared: r.compared as u64,
+            errored: r.errored as u64,
+            farend: r.farend as u64,
+        },
+        Err(refusal) => Reading {
+            number: refusal.number(),
+            ..Reading::default()
+        },
+    };
+    let values = [
+        r.number, r.place, r.start, r.whole, r.used, r.lost, r.words, r.compared, r.errored,
+        r.farend,
+    ];
+    assert_eq!(answer, places(values));
+    assert!(c_payload == payload && c_slot0 == slot0, "outputs of {r:?}");
+    r
+}
+
+pub fn write(payload: &[u8], overhead: &[u8], check: u64, out: &mut [u8]) -> Written {
+    let mut c_out = out.to_vec();
+    // SAFETY: every pointer comes with the length of its own slice.
+    let answer = answered(|answer| unsafe {
+        sys::jk_write(
+            payload.as_ptr(),
+            payload.len(),
+            overhead.as_ptr(),
+            overhead.len(),
+            check,
+            c_out.as_mut_ptr(),
+            c_out.len(),
+            answer,
+        )
+    });
+    let w = match jikhvanto::write(payload, overhead, check, out) {
+        Ok(check) => Written { number: 0, check },
+        Err(refusal) => Written {
+            number: refusal.number(),
+            check: 0,
+        },
+    };
+    assert_eq!(answer, places([w.number, w.check]));
+    assert!(c_out == out, "output of {w:?}");
+    w
+}

@@ -1,0 +1,75 @@
+//! The proved library and the oracle, held together.
+
+mod kit;
+mod runs;
+
+use agree::{seed, write_both};
+use given::{overhead, Random};
+
+const ROWS: u64 = 500;
+
+#[test]
+fn reads() {
+    agree::reads("the library", kit::read);
+}
+
+#[test]
+fn writes() {
+    agree::writes("the library", kit::write);
+}
+
+/// Each bit of each overhead octet alone, and each with all others.
+#[test]
+fn every_overhead_bit() {
+    let r = &mut Random::new(0, 0);
+    for n in [1, 2, 16] {
+        let payload = r.octets(496 * n);
+        let before = r.octets(512 * n);
+        let both = |overhead: Vec<u8>, check| {
+            let given = given::Write {
+                payload: payload.clone(),
+                overhead,
+                check,
+                before: before.clone(),
+            };
+            write_both(&given, kit::write);
+        };
+        let most = [63, 63, 63, 63, 63, 63, 127, 127].repeat(n);
+        for j in 0..8 * n {
+            for bit in 0..8 {
+                let mut alone = vec![0; 8 * n];
+                alone[j] = 1 << bit;
+                both(alone, 0);
+                let mut others = most.clone();
+                others[j] ^= 1 << bit;
+                both(others, 15);
+            }
+        }
+    }
+}
+
+/// Parts written one after another, the check handed on, are the whole.
+#[test]
+fn handed_on() {
+    let seed = seed(&format!("{ROWS} writes handed on, the library"));
+    for item in 0..ROWS {
+        let r = &mut Random::new(seed, item);
+        let (n, check) = (r.between(2, 16), r.below(16) as u64);
+        let (payload, overhead) = (r.octets(496 * n), overhead(r, 8 * n));
+        let cut = r.between(1, n - 1);
+
+        let mut whole = vec![0; 512 * n];
+        let at_once = kit::write(&payload, &overhead, check, &mut whole);
+        let mut parts = vec![0; 512 * n];
+        let (out, out_rest) = parts.split_at_mut(512 * cut);
+        let first = kit::write(&payload[..496 * cut], &overhead[..8 * cut], check, out);
+        let second = kit::write(
+            &payload[496 * cut..],
+            &overhead[8 * cut..],
+            first.check,
+            out_rest,
+        );
+        assert_eq!(second, at_once, "item {item}");
+        assert!(parts == whole, "item {item}");
+    }
+}

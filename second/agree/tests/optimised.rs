@@ -1,0 +1,51 @@
+//! The optimised form and the oracle, held together.
+
+use agree::seed;
+use given::Random;
+use oracle::check::check;
+use oracle::line::{bits, number, BLOCK};
+
+const MAPS: u64 = 24_000;
+const CHECKS: u64 = 4_000;
+
+#[test]
+fn reads() {
+    agree::reads("the optimised form", optimised::read);
+}
+
+#[test]
+fn writes() {
+    agree::writes("the optimised form", optimised::write);
+}
+
+#[test]
+fn maps() {
+    let seed = seed(&format!("{MAPS} mappings, the optimised form"));
+    let mut numbers = [0; 6];
+    for item in 0..MAPS {
+        let m = given::mapping(&mut Random::new(seed, item));
+        let (mut out, mut other_out) = (m.before.clone(), m.before);
+        let number = m.exchange.map(&m.payload, &mut out);
+        let other = optimised::map(&m.exchange, &m.payload, &mut other_out);
+        assert_eq!(other, number, "mapping {item}");
+        assert!(other_out == out, "output of mapping {item}");
+        numbers[number as usize] += 1;
+    }
+    for number in [0, 4, 5] {
+        assert!(numbers[number] >= 1_000, "{numbers:?}");
+    }
+}
+
+/// At every bit place, with any bits before and behind.
+#[test]
+fn checks() {
+    let seed = seed(&format!("{CHECKS} blocks at 8 places, the optimised form"));
+    for item in 0..CHECKS {
+        let octets = Random::new(seed, item).octets(257);
+        for o in 0..8 {
+            let block = &bits(&octets)[o..o + BLOCK];
+            let check = number(&check(block));
+            assert_eq!(optimised::check(&octets, o), check, "item {item}, bit {o}");
+        }
+    }
+}

@@ -1,0 +1,167 @@
+//! The oracle held to the bench cases of the paper, by their numbers.
+
+use given::making::{shifted, wrong_words};
+use oracle::check::check;
+use oracle::line::{number, BLOCK};
+use oracle::writing::odd_slot0;
+use oracle::{read, report, write, Answer, Exchange, Reading};
+
+/// The check of a block that is 1 at these places only, as C1 to C4 read.
+fn check_of(ones: &[usize]) -> String {
+    let mut block = [0; BLOCK];
+    for place in ones {
+        block[*place] = 1;
+    }
+    check(&block).map(|bit| bit.to_string()).concat()
+}
+
+/// Written multiframes with E bits 1.
+fn line(n: usize) -> Vec<u8> {
+    let payload: Vec<u8> = (0..496 * n).map(|i| (11 * i + i / 31) as u8).collect();
+    let overhead: Vec<u8> = [31, 31, 31, 31, 31, 31, 95, 95].repeat(n);
+    let mut out = vec![0; 512 * n];
+    assert_eq!(write(&payload, &overhead, 0, &mut out).number, 0);
+    out
+}
+
+fn read_all(image: &[u8]) -> Reading {
+    read(image, &mut [0; 7_936], &mut [0; 256])
+}
+
+fn refusal(number: u64) -> Reading {
+    Reading {
+        number,
+        ..Reading::default()
+    }
+}
+
+#[test]
+fn case_1_a_block_of_zeros() {
+    assert_eq!(check_of(&[]), "0000");
+}
+
+#[test]
+fn case_2_one_bit_near_the_end() {
+    assert_eq!(check_of(&[2047]), "0011");
+    assert_eq!(check_of(&[2046]), "0110");
+    assert_eq!(check_of(&[2045]), "1100");
+    assert_eq!(check_of(&[2044]), "1011");
+}
+
+#[test]
+fn case_3_fifteen_bits_apart() {
+    assert_eq!(check_of(&[2047, 2032]), "0000");
+}
+
+#[test]
+fn case_4_a_check_place() {
+    assert_eq!(check_of(&[0]), "0000");
+}
+
+#[test]
+fn case_5_five_bits_can_hide() {
+    assert_eq!(check_of(&[2043, 2046, 2047]), "0000");
+}
+
+#[test]
+fn case_5_four_bits_cannot() {
+    for burst in 1..16 {
+        let ones: Vec<usize> = (0..4).filter(|i| burst >> i & 1 == 1).collect();
+        for at in [3, 600, 2044] {
+            let ones: Vec<usize> = ones.iter().map(|i| at + i).collect();
+            assert_ne!(check_of(&ones), "0000");
+        }
+    }
+}
+
+#[test]
+fn case_6_slot_0() {
+    let payload = [0; 496];
+    let mut out = [0; 512];
+    for (check, octet) in [(0, 0x1B), (8, 0x9B)] {
+        write(&payload, &[0; 8], check, &mut out);
+        assert_eq!(out[0], octet);
+    }
+    assert_eq!(number(&odd_slot0(1, 31)), 0x5F);
+    assert_eq!(number(&odd_slot0(1, 32 + 31)), 0x7F);
+}
+
+/// The live entry 5, as a host reads it.
+fn entry_5(exchange: &mut Exchange) -> Answer {
+    exchange.host(&[3, 5, 0, 0])
+}
+
+#[test]
+fn case_7_no_waiting_map_survives_the_key() {
+    let mut exchange = Exchange::start();
+    exchange.key(1);
+    exchange.host(&[1, 5, 9, 0]);
+    exchange.host(&[2, 0, 0, 0]);
+    exchange.key(0);
+    exchange.boundary();
+    exchange.key(1);
+    let entry = entry_5(&mut exchange);
+    assert_eq!((entry.number, entry.entry), (0, 5));
+}
+
+#[test]
+fn case_8_a_live_map_stays() {
+    let mut exchange = Exchange::start();
+    exchange.key(1);
+    exchange.host(&[1, 5, 9, 0]);
+    exchange.host(&[2, 0, 0, 0]);
+    exchange.boundary();
+    exchange.key(0);
+    let entry = entry_5(&mut exchange);
+    assert_eq!((entry.number, entry.entry), (0, 9));
+}
+
+#[test]
+fn case_9_lengths() {
+    assert_eq!(read_all(&[0; 2_047]), refusal(1));
+    assert_eq!(read_all(&[0; 2_048]), refusal(3));
+    assert_eq!(read_all(&[255; 2_048]), refusal(3));
+    assert_eq!(read_all(&[0; 8_192]), refusal(3));
+    assert_eq!(read_all(&line(16)).whole, 16);
+    assert_eq!(read_all(&[0; 8_193]), refusal(2));
+}
+
+#[test]
+fn case_10_one_bit_in_front() {
+    let image = shifted(&line(4), 1);
+    assert_eq!(image.len(), 2_049);
+    let r = read_all(&image);
+    assert_eq!((r.number, r.place, r.start, r.whole), (0, 1, 1, 4));
+}
+
+#[test]
+fn case_11_loss() {
+    let mut image = line(4);
+    wrong_words(&mut image, &[28, 30, 32]);
+    let r = read_all(&image);
+    assert_eq!((r.number, r.lost, r.used), (0, 32, 2));
+    assert_eq!((r.words, r.compared, r.errored), (2, 3, 0));
+}
+
+#[test]
+fn case_12_report() {
+    let lines =
+        "place 0\nstart 0\nwhole 4\nused 4\nlost no\nwords 0\ncompared 7\nerrored 0\nfarend 0\n";
+    assert_eq!(report(&line(4)), lines);
+    assert_eq!(report(&[0; 2_048]), "refused 3\n");
+    let mut image = line(4);
+    wrong_words(&mut image, &[28, 30, 32]);
+    assert!(report(&image).contains("\nlost 32\n"));
+}
+
+#[test]
+fn a_line_reads_as_it_was_written() {
+    let payload: Vec<u8> = (0..496 * 5).map(|i| (3 * i) as u8).collect();
+    let mut image = [0; 512 * 5];
+    write(&payload, &[0; 40], 9, &mut image);
+    let (mut read_back, mut slot0) = ([0; 496 * 5], [0; 80]);
+    let r = read(&image, &mut read_back, &mut slot0);
+    assert_eq!((r.number, r.used, r.errored, r.farend), (0, 5, 0, 8));
+    assert_eq!(read_back.as_slice(), payload);
+    assert!((0..80).all(|f| slot0[f] == image[32 * f]));
+}

@@ -1,0 +1,39 @@
+//! How fast the library is: its times, and what they are to those of the
+//! plain form, the optimised form and a copy. `marks` has the same without
+//! the library.
+
+use bench::{hidden, Form};
+use jikhvanto::{Refusal, State};
+use std::process::ExitCode;
+
+fn main() -> ExitCode {
+    bench::main(&[kit(), bench::plain(), bench::optimised()])
+}
+
+fn kit() -> Form {
+    let state = state().expect("records that are taken");
+    Form {
+        name: "kit",
+        read: Box::new(|image, payload, slot0| {
+            number(hidden(jikhvanto::read(image, payload, slot0)))
+        }),
+        write: Box::new(|payload, overhead, check, out| {
+            number(hidden(jikhvanto::write(payload, overhead, check, out)))
+        }),
+        map: Box::new(move |payload, out| number(state.map(payload, out))),
+    }
+}
+
+fn state() -> Result<State, Refusal> {
+    let mut state = State::new();
+    state.key(1)?;
+    for record in bench::records() {
+        state.host(&record)?;
+    }
+    state.boundary();
+    Ok(state)
+}
+
+fn number<T>(answer: Result<T, Refusal>) -> u64 {
+    answer.map_or_else(Refusal::number, |_| 0)
+}

@@ -1,0 +1,289 @@
+//! Rows of calls that are timed, in each of several forms, beside a plain
+//! copy of the octets that the call hands over. The form under test, where
+//! there is one, comes first, and the ratios are its own.
+
+use given::making::{densest, false_starts, shifted};
+use given::Random;
+use oracle::{read, write, Exchange};
+use std::arch::asm;
+use std::env;
+use std::process::ExitCode;
+use std::time::{Duration, Instant};
+
+const ROUNDS: usize = 100;
+const ROUND: Duration = Duration::from_millis(1);
+
+type Read = Box<dyn Fn(&[u8], &mut [u8], &mut [u8]) -> u64>;
+type Write = Box<dyn Fn(&[u8], &[u8], u64, &mut [u8]) -> u64>;
+type Map = Box<dyn Fn(&[u8], &mut [u8]) -> u64>;
+
+/// The operations in one form, each answering its number with the rest of its
+/// answer `hidden`. `map` has the map that `records` make.
+pub struct Form {
+    pub name: &'static str,
+    pub read: Read,
+    pub write: Write,
+    pub map: Map,
+}
+
+/// The oracle.
+pub fn plain() -> Form {
+    let exchange = exchange();
+    Form {
+        name: "plain",
+        read: Box::new(|image, payload, slot0| hidden(read(image, payload, slot0)).number),
+        write: Box::new(|payload, overhead, check, out| {
+            hidden(write(payload, overhead, check, out)).number
+        }),
+        map: Box::new(move |payload, out| exchange.map(payload, out)),
+    }
+}
+
+/// The form that is the mark.
+pub fn optimised() -> Form {
+    let exchange = exchange();
+    Form {
+        name: "optimised",
+        read: Box::new(|image, payload, slot0| {
+            hidden(optimised::read(image, payload, slot0)).number
+        }),
+        write: Box::new(|payload, overhead, check, out| {
+            hidden(optimised::write(payload, overhead, check, out)).number
+        }),
+        map: Box::new(move |payload, out| optimised::map(&exchange, payload, out)),
+    }
+}
+
+/// A host's records that put the slots in reverse, one of them idle.
+pub fn records() -> Vec<[u8; 4]> {
+    let staged = (1..=31).map(|slot| [1, slot, 31 - slot, 0]);
+    staged.chain([[2, 0, 0, 0]]).collect()
+}
+
+fn exchange() -> Exchange {
+    let mut exchange = Exchange::start();
+    exchange.key(1);
+    for record in records() {
+        exchange.host(&record);
+    }
+    exchange.boundary();
+    exchange
+}
+
+/// What a row calls.
+enum Asked {
+    /// Of an image that is answered with this number.
+    Read {
+        image: Vec<u8>,
+        number: u64,
+    },
+    Write {
+        payload: Vec<u8>,
+        overhead: Vec<u8>,
+    },
+    Map {
+        payload: Vec<u8>,
+    },
+}
+
+type Row = (&'static str, Asked);
+
+fn rows() -> Vec<Row> {
+    let r = &mut Random::new(0, 0);
+    let payload = r.octets(7_936);
+    let overhead = [31, 31, 31, 31, 31, 31, 95, 95].repeat(16);
+    let mut aligned = vec![0; 8_192];
+    write(&payload, &overhead, 0, &mut aligned);
+    let mut moved = shifted(&aligned, 3);
+    moved.truncate(8_192);
+    // Signals, none of them 2, 4 or 6 ms from another.
+    let false_starts = false_starts(8_192, &[0, 0, 1, 0, 1, 1, 0]);
+    let read = |image, number| Asked::Read { image, number };
+    vec![
+        ("read-place-0", read(aligned, 0)),
+        ("read-place-3", read(moved, 0)),
+        ("read-noise", read(r.octets(8_192), 3)),
+        ("read-0x1B", read(vec![0x1B; 8_192], 3)),
+        ("read-false-starts", read(false_starts, 3)),
+        ("read-densest", read(densest(8_192), 3)),
+        (
+            "write-16",
+            Asked::Write {
+                payload: payload.clone(),
+                overhead,
+            },
+        ),
+        ("map-16", Asked::Map { payload }),
+    ]
+}
+
+type Contender<'a> = Box<dyn FnMut() + 'a>;
+
+/// The value, from a place that the compiler must believe was read and set
+/// (`black_box` is younger than the oldest compiler for this package).
+pub fn hidden<T>(mut value: T) -> T {
+    // SAFETY: no instruction at all.
+    unsafe { asm!("/* {} */", in(reg) &mut value as *mut T, options(nostack, preserves_flags)) };
+    value
+}
+
+impl Asked {
+    /// The octets that a copy takes in the call's stead.
+    fn handed_over(&self) -> &[u8] {
+        match self {
+            Asked::Read { image, .. } => &image[..7_936],
+            Asked::Write { payload, .. } | Asked::Map { payload } => payload,
+        }
+    }
+
+    fn copier(&self) -> Contender<'_> {
+        let octets = self.handed_over();
+        let mut out = vec![0; octets.len()];
+        Box::new(move || {
+            out.copy_from_slice(hidden(octets));
+            hidden(&out);
+        })
+    }
+
+    /// The call in this form.
+    fn of<'a>(&'a self, form: &'a Form) -> Contender<'a> {
+        let mut out = vec![0; 8_192];
+        let mut slot0 = [0; 256];
+        match self {
+            Asked::Read { image, number } => {
+                let answered = (form.read)(image, &mut out, &mut slot0);
+                assert_eq!(answered, *number, "{}", form.name);
+                Box::new(move || {
+                    hidden((form.read)(hidden(image), &mut out, &mut slot0));
+                    hidden(&out);
+                })
+            }
+            Asked::Write { payload, overhead } => Box::new(move || {
+                let (payload, overhead) = hidden((payload, overhead));
+                hidden((form.write)(payload, overhead, 9, &mut out));
+                hidden(&out);
+            }),
+            Asked::Map { payload } => Box::new(move || {
+                hidden((form.map)(hidden(payload), &mut out));
+                hidden(&out);
+            }),
+        }
+    }
+}
+
+/// Without arguments the table; with `rows` their names; with a form, a row
+/// and a count, that many calls and nothing else, for a program that counts
+/// instructions.
+pub fn main(forms: &[Form]) -> ExitCode {
+    let arguments: Vec<String> = env::args().skip(1).collect();
+    let arguments: Vec<&str> = arguments.iter().map(String::as_str).collect();
+    let done = match arguments[..] {
+        [] => {
+            table(forms);
+            Ok(())
+        }
+        ["rows"] => {
+            println!("{}", names(&rows()).join("\n"));
+            Ok(())
+        }
+        [form, row, count] => run(forms, form, row, count),
+        _ => Err("nothing, `rows`, or a form, a row and a count".to_string()),
+    };
+    match done {
+        Ok(()) => ExitCode::SUCCESS,
+        Err(why) => {
+            eprintln!("{why}");
+            ExitCode::FAILURE
+        }
+    }
+}
+
+fn names(rows: &[Row]) -> Vec<&'static str> {
+    rows.iter().map(|(name, _)| *name).collect()
+}
+
+fn run(forms: &[Form], form: &str, row: &str, count: &str) -> Result<(), String> {
+    let rows = rows();
+    let (_, asked) = rows
+        .iter()
+        .find(|(name, _)| *name == row)
+        .ok_or_else(|| format!("no row {row}; there are {}", names(&rows).join(", ")))?;
+    let mut contender = match forms.iter().find(|f| f.name == form) {
+        Some(form) => asked.of(form),
+        None if form == "copy" => asked.copier(),
+        None => {
+            let forms: Vec<&str> = forms.iter().map(|f| f.name).collect();
+            return Err(format!(
+                "no form {form}; there are {} and copy",
+                forms.join(", ")
+            ));
+        }
+    };
+    let calls = count.parse().map_err(|_| format!("no count {count}"))?;
+    time(&mut contender, calls);
+    Ok(())
+}
+
+fn table(forms: &[Form]) {
+    let names: Vec<&str> = forms.iter().map(|f| f.name).chain(["copy"]).collect();
+    print!("| Call |");
+    for name in &names {
+        print!(" {name}, µs |");
+    }
+    for name in &names[1..] {
+        print!(" {} / {name} |", names[0]);
+    }
+    println!("\n|---|{}", "---:|".repeat(2 * names.len() - 1));
+    for (name, asked) in rows() {
+        let mut contenders: Vec<Contender> = forms.iter().map(|f| asked.of(f)).collect();
+        contenders.push(asked.copier());
+        print_row(name, &best(&mut contenders));
+    }
+}
+
+fn print_row(name: &str, best: &[f64]) {
+    print!("| {name} |");
+    for ns in best {
+        print!(" {:.2} |", ns / 1_000.0);
+    }
+    for other in &best[1..] {
+        print!(" {:.3} |", best[0] / other);
+    }
+    println!();
+}
+
+/// How many calls fill about a round.
+fn calls_in_round(contender: &mut Contender) -> u32 {
+    let mut calls = 1;
+    loop {
+        let took = time(contender, calls);
+        if took >= ROUND / 4 {
+            let each = took / calls;
+            return (ROUND.as_nanos() / each.as_nanos().max(1)) as u32 + 1;
+        }
+        calls *= 2;
+    }
+}
+
+fn time(contender: &mut Contender, calls: u32) -> Duration {
+    let begin = Instant::now();
+    for _ in 0..calls {
+        contender();
+    }
+    begin.elapsed()
+}
+
+/// Nanoseconds a call: of each contender its best round, for what else the
+/// machine does only adds. Rounds are short and take turns, so that some of
+/// each meet a quiet moment.
+fn best(contenders: &mut [Contender]) -> Vec<f64> {
+    let calls: Vec<u32> = contenders.iter_mut().map(calls_in_round).collect();
+    let mut best = vec![f64::INFINITY; contenders.len()];
+    for _ in 0..ROUNDS {
+        for (i, contender) in contenders.iter_mut().enumerate() {
+            let took = time(contender, calls[i]);
+            best[i] = best[i].min(took.as_nanos() as f64 / f64::from(calls[i]));
+        }
+    }
+    best
+}

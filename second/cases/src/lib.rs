@@ -1,0 +1,478 @@
+//! The further bench cases, one line of text a call. `CASES.md` says each in
+//! words; the kit's own cases program prints the same text.
+
+#![forbid(unsafe_code)]
+
+use given::making::{flip, shifted, wrong_signals, wrong_words};
+use oracle::{read, write, Exchange};
+use std::fmt::Write;
+
+/// What every lent octet holds before a call.
+const BEFORE: u8 = 170;
+
+/// The text of all cases.
+pub fn all() -> String {
+    let mut text = String::new();
+    lengths(&mut text);
+    places(&mut text);
+    losses(&mut text);
+    blocks(&mut text);
+    far_ends(&mut text);
+    outputs(&mut text);
+    writes(&mut text);
+    rows(&mut text);
+    runs(&mut text);
+    text
+}
+
+/// The sum of octet i times i + 1, modulo 65,521.
+fn digest(octets: &[u8]) -> u64 {
+    let mut sum = 0;
+    for (i, octet) in octets.iter().enumerate() {
+        sum += (i as u64 + 1) * u64::from(*octet);
+    }
+    sum % 65_521
+}
+
+fn payload(octets: usize) -> Vec<u8> {
+    (0..octets).map(|i| (7 * i + 5 * (i / 31)) as u8).collect()
+}
+
+/// Every bit that may be 1 is at times 1; E is always.
+fn overhead(octets: usize) -> Vec<u8> {
+    let e = |j: usize| if j % 8 >= 6 { 64 } else { 0 };
+    (0..octets)
+        .map(|j| ((5 * j + 31) % 64 + e(j)) as u8)
+        .collect()
+}
+
+fn line_of(payload: &[u8], overhead: &[u8]) -> Vec<u8> {
+    let mut line = vec![0; payload.len() / 496 * 512];
+    write(payload, overhead, 5, &mut line);
+    line
+}
+
+fn line(n: usize) -> Vec<u8> {
+    line_of(&payload(496 * n), &overhead(8 * n))
+}
+
+fn read_into(text: &mut String, label: &str, image: &[u8], room: usize, room0: usize) {
+    let (mut payload, mut slot0) = (vec![BEFORE; room], vec![BEFORE; room0]);
+    let r = read(image, &mut payload, &mut slot0);
+    write!(text, "{label}: {} place {}", r.number, r.place).unwrap();
+    write!(text, " start {} whole {}", r.start, r.whole).unwrap();
+    write!(text, " used {} lost {}", r.used, r.lost).unwrap();
+    write!(text, " words {} compared {}", r.words, r.compared).unwrap();
+    write!(text, " errored {} farend {}", r.errored, r.farend).unwrap();
+    writeln!(
+        text,
+        " payload {} slot0 {}",
+        digest(&payload),
+        digest(&slot0)
+    )
+    .unwrap();
+}
+
+/// With room for all that any image holds.
+fn read_case(text: &mut String, label: &str, image: &[u8]) {
+    read_into(text, label, image, 7_936, 256);
+}
+
+fn lengths(text: &mut String) {
+    read_case(text, "9 short", &[0; 2_047]);
+    read_case(text, "9 zeros", &[0; 2_048]);
+    read_case(text, "9 ones", &[255; 2_048]);
+    read_case(text, "9 good", &line(16));
+    let mut long = line(16);
+    long.push(0);
+    read_case(text, "9 long", &long);
+}
+
+fn places(text: &mut String) {
+    read_case(text, "10", &shifted(&line(4), 1));
+
+    for front in [0, 1, 2, 3, 4, 5, 6, 7, 61] {
+        let image = shifted(&line(4), front);
+        read_case(text, &format!("shift {front}"), &image);
+    }
+
+    read_case(text, "k 7", &line(5)[64..]);
+
+    let mut image = line(4);
+    wrong_signals(&mut image, &[0]);
+    read_case(text, "k 8", &image);
+
+    let mut image = line(5);
+    wrong_signals(&mut image, &[1]);
+    read_case(text, "k 15", &image[64..]);
+
+    let mut image = line(4);
+    wrong_signals(&mut image, &[1, 3]);
+    read_case(text, "apart 16", &image);
+
+    let mut image = line(4);
+    wrong_signals(&mut image, &[1, 2]);
+    read_case(text, "apart 24", &image);
+
+    let mut image = line(4);
+    wrong_signals(&mut image, &[1, 2, 3]);
+    read_case(text, "apart none", &image);
+
+    let mut image = line(5);
+    wrong_signals(&mut image, &[2, 3]);
+    read_case(text, "apart too far", &image[64..]);
+
+    read_case(text, "no room", &shifted(&line(4), 1)[..2_048]);
+
+    let mut payload = payload(496 * 5);
+    payload[0] = 0x1B;
+    payload[31] = 0x40;
+    payload[62] = 0x1B;
+    let image = line_of(&payload, &overhead(40));
+    read_case(text, "false place", &image[1..]);
+}
+
+fn losses(text: &mut String) {
+    let mut lost = |label: &str, frames: &[usize]| {
+        let mut image = line(4);
+        wrong_words(&mut image, frames);
+        read_case(text, label, &image);
+    };
+    lost("11", &[28, 30, 32]);
+    lost("12", &[]);
+    lost("loss first", &[4, 6, 8]);
+    lost("loss last", &[58, 60, 62]);
+    lost("loss of four", &[28, 30, 32, 34]);
+    lost("loss twice", &[28, 30, 32, 44, 46, 48]);
+    lost("no loss", &[40, 42, 46, 60, 62]);
+
+    let mut image = line(5);
+    wrong_words(&mut image, &[16, 18, 20]);
+    read_case(text, "loss at 4", &image[64..]);
+
+    let mut image = line(5);
+    wrong_words(&mut image, &[12, 14, 16]);
+    read_case(text, "loss before", &image[64..]);
+}
+
+fn blocks(text: &mut String) {
+    let mut hit = |label: &str, places: &[usize]| {
+        let mut image = line(4);
+        for place in places {
+            flip(&mut image, *place);
+        }
+        read_case(text, label, &image);
+    };
+    hit("data of block 2", &[4_200]);
+    hit("last bit of block 0", &[2_047]);
+    hit("check of block 2", &[4_096]);
+    hit("check of block 0", &[0, 512, 1_024, 1_536]);
+    hit("data of block 7", &[16_383]);
+    hit("four bits", &[4_200, 4_201, 4_202, 4_203]);
+    hit("five bits", &[4_200, 4_203, 4_204]);
+    hit("two blocks", &[4_200, 6_300, 6_301]);
+}
+
+fn far_ends(text: &mut String) {
+    // The E bits of multiframe m are 0, and these bits of the line are hit.
+    let mut far = |label: &str, m: usize, places: &[usize]| {
+        let mut overhead = overhead(32);
+        overhead[8 * m + 6] -= 64;
+        overhead[8 * m + 7] -= 64;
+        let mut image = line_of(&payload(496 * 4), &overhead);
+        for place in places {
+            flip(&mut image, *place);
+        }
+        read_case(text, label, &image);
+    };
+    far("far clean", 1, &[]);
+    far("far first errored", 1, &[4_200]);
+    far("far second errored", 1, &[6_300]);
+    far("far last", 3, &[]);
+    far("far received", 1, &[3_328]);
+}
+
+fn outputs(text: &mut String) {
+    let image = line(4);
+    read_into(text, "out exact", &image, 1_984, 64);
+    read_into(text, "out payload short", &image, 1_983, 64);
+    read_into(text, "out slot0 short", &image, 1_984, 63);
+    read_into(text, "out longer", &image, 1_985, 65);
+    read_into(text, "out none", &image, 0, 0);
+
+    let mut image = line(4);
+    wrong_words(&mut image, &[4, 6, 8]);
+    read_into(text, "out none needed", &image, 0, 0);
+
+    read_into(text, "order 1", &[], 0, 0);
+    read_into(text, "order 2", &[0; 8_193], 0, 0);
+    read_into(text, "order 3", &[0; 2_048], 0, 0);
+}
+
+fn write_line(text: &mut String, label: &str, number: u64, check: u64, out: &[u8]) {
+    writeln!(text, "{label}: {number} check {check} out {}", digest(out)).unwrap();
+}
+
+fn writes(text: &mut String) {
+    let mut written = |label: &str, payload: &[u8], overhead: &[u8], check: u64, room: usize| {
+        let mut out = vec![BEFORE; room];
+        let w = write(payload, overhead, check, &mut out);
+        write_line(text, label, w.number, w.check, &out);
+    };
+    for n in [1, 2, 16] {
+        let label = format!("write {n}");
+        written(&label, &payload(496 * n), &overhead(8 * n), 5, 512 * n);
+    }
+    let payload_1 = payload(496);
+    for check in 0..16 {
+        let label = format!("write check {check}");
+        written(&label, &payload_1, &overhead(8), check, 512);
+    }
+    written("write zeros", &[0; 496], &[0; 8], 0, 512);
+    let most = [63, 63, 63, 63, 63, 63, 127, 127];
+    written("write ones", &[255; 496], &most, 15, 512);
+
+    written("write 5 none", &[], &[], 5, 512);
+    written("write 5 less", &payload(495), &overhead(8), 5, 512);
+    written("write 5 more", &payload(497), &overhead(8), 5, 1_024);
+    written("write 5 over", &payload(8_432), &overhead(136), 5, 8_704);
+
+    written("write 6 less", &payload_1, &overhead(7), 5, 512);
+    written("write 6 more", &payload_1, &overhead(9), 5, 512);
+    written("write 6 none", &payload_1, &[], 5, 512);
+    for j in 0..8 {
+        let mut bad = overhead(8);
+        bad[j] |= 128;
+        written(&format!("write 128 at {j}"), &payload_1, &bad, 5, 512);
+        let mut bad = overhead(8);
+        bad[j] |= 64;
+        written(&format!("write 64 at {j}"), &payload_1, &bad, 5, 512);
+    }
+    let mut bad = overhead(16);
+    bad[13] |= 64;
+    written("write 64 at 13", &payload(992), &bad, 5, 1_024);
+
+    written("write 7", &payload_1, &overhead(8), 16, 512);
+    written("write 7 most", &payload_1, &overhead(8), u64::MAX, 512);
+
+    written("write 4", &payload_1, &overhead(8), 5, 511);
+    written("write 4 none", &payload_1, &overhead(8), 5, 0);
+    written("write longer", &payload_1, &overhead(8), 5, 513);
+
+    written("write order 5", &payload(495), &overhead(7), 16, 0);
+    written("write order 6", &payload_1, &overhead(7), 16, 0);
+    written("write order 7", &payload_1, &overhead(8), 16, 0);
+}
+
+/// Two writes with the check handed on, then one of both.
+fn rows(text: &mut String) {
+    let (payload, overhead) = (payload(992), overhead(16));
+
+    let mut out = [BEFORE; 1_024];
+    let first = write(&payload[..496], &overhead[..8], 5, &mut out[..512]);
+    let second = write(
+        &payload[496..],
+        &overhead[8..],
+        first.check,
+        &mut out[512..],
+    );
+    write_line(text, "row of two", second.number, second.check, &out);
+
+    let mut out = [BEFORE; 1_024];
+    let both = write(&payload, &overhead, 5, &mut out);
+    write_line(text, "row at once", both.number, both.check, &out);
+}
+
+/// A run of calls from the start.
+struct Run<'a> {
+    text: &'a mut String,
+    name: &'a str,
+    exchange: Exchange,
+}
+
+impl Run<'_> {
+    fn host(&mut self, record: &[u8]) {
+        let answer = self.exchange.host(record);
+        write!(self.text, "run {} host", self.name).unwrap();
+        for octet in record {
+            write!(self.text, " {octet}").unwrap();
+        }
+        writeln!(self.text, ": {} entry {}", answer.number, answer.entry).unwrap();
+    }
+
+    fn key(&mut self, position: u64) {
+        let number = self.exchange.key(position);
+        writeln!(self.text, "run {} key {position}: {number}", self.name).unwrap();
+    }
+
+    fn boundary(&mut self) {
+        let number = self.exchange.boundary();
+        writeln!(self.text, "run {} boundary: {number}", self.name).unwrap();
+    }
+
+    fn map(&mut self, octets: usize, room: usize) {
+        let mut out = vec![BEFORE; room];
+        let number = self.exchange.map(&payload(octets), &mut out);
+        let digest = digest(&out);
+        writeln!(
+            self.text,
+            "run {} map {octets} {room}: {number} out {digest}",
+            self.name
+        )
+        .unwrap();
+    }
+}
+
+fn runs(text: &mut String) {
+    let mut run = |name: &str, calls: fn(&mut Run)| {
+        let exchange = Exchange::start();
+        calls(&mut Run {
+            text,
+            name,
+            exchange,
+        });
+    };
+    run("7", run_7);
+    run("8", run_8);
+    run("refused", run_refused);
+    run("staged", run_staged);
+    run("mapped", run_mapped);
+}
+
+fn run_7(run: &mut Run) {
+    run.key(1);
+    run.host(&[1, 5, 9, 0]);
+    run.host(&[2, 0, 0, 0]);
+    run.key(0);
+    run.boundary();
+    run.key(1);
+    run.host(&[3, 5, 0, 0]);
+}
+
+fn run_8(run: &mut Run) {
+    run.key(1);
+    run.host(&[1, 5, 9, 0]);
+    run.host(&[2, 0, 0, 0]);
+    run.boundary();
+    run.key(0);
+    run.host(&[3, 5, 0, 0]);
+}
+
+/// Every number from 8 to 13, and which comes first.
+fn run_refused(run: &mut Run) {
+    run.host(&[]);
+    run.host(&[3, 5, 0]);
+    run.host(&[3, 5, 0, 0, 0]);
+    run.host(&[0, 0, 0, 0]);
+    run.host(&[5, 0, 32, 0]);
+    run.host(&[255, 5, 9, 0]);
+    run.host(&[1, 0, 9, 0]);
+    run.host(&[1, 32, 9, 0]);
+    run.host(&[1, 5, 32, 0]);
+    run.host(&[3, 0, 0, 0]);
+    run.host(&[3, 32, 0, 0]);
+    run.host(&[1, 5, 9, 0]);
+    run.host(&[2, 0, 32, 0]);
+    run.host(&[4, 255, 255, 0]);
+    run.host(&[3, 31, 255, 7]);
+    run.key(2);
+    run.key(u64::MAX);
+    run.host(&[2, 0, 0, 0]);
+    run.key(1);
+    run.host(&[2, 0, 32, 0]);
+    run.host(&[4, 255, 255, 0]);
+    run.host(&[1, 5, 32, 0]);
+    run.host(&[2, 0, 0, 0]);
+    run.host(&[1, 5, 9, 255]);
+    run.key(2);
+    run.host(&[2, 0, 0, 1]);
+    run.host(&[2, 0, 0, 2]);
+    run.host(&[4, 0, 0, 3]);
+    run.boundary();
+    run.host(&[3, 5, 0, 0]);
+}
+
+/// What becomes of staged and waiting maps.
+fn run_staged(run: &mut Run) {
+    run.key(1);
+    run.host(&[1, 1, 31, 0]);
+    run.host(&[1, 31, 1, 0]);
+    run.host(&[3, 1, 0, 0]);
+    run.boundary();
+    run.host(&[3, 1, 0, 0]);
+    run.host(&[2, 0, 0, 0]);
+    run.host(&[3, 1, 0, 0]);
+    run.boundary();
+    run.host(&[3, 1, 0, 0]);
+    run.host(&[3, 31, 0, 0]);
+    // The second commit replaces the first, from the live map.
+    run.host(&[1, 2, 20, 0]);
+    run.host(&[2, 0, 0, 0]);
+    run.host(&[1, 3, 21, 0]);
+    run.host(&[2, 0, 0, 0]);
+    run.boundary();
+    run.host(&[3, 1, 0, 0]);
+    run.host(&[3, 2, 0, 0]);
+    run.host(&[3, 3, 0, 0]);
+    // A drop leaves what waits.
+    run.host(&[1, 4, 22, 0]);
+    run.host(&[2, 0, 0, 0]);
+    run.host(&[1, 4, 23, 0]);
+    run.host(&[4, 0, 0, 0]);
+    run.host(&[4, 0, 0, 0]);
+    run.boundary();
+    run.host(&[3, 4, 0, 0]);
+    run.boundary();
+    run.host(&[3, 4, 0, 0]);
+    // The key drops what is staged; a staged map is a copy of its time.
+    run.host(&[1, 6, 24, 0]);
+    run.key(1);
+    run.host(&[1, 7, 25, 0]);
+    run.key(0);
+    run.key(1);
+    run.host(&[2, 0, 0, 0]);
+    run.host(&[1, 8, 26, 0]);
+    run.host(&[2, 0, 0, 0]);
+    run.host(&[1, 9, 27, 0]);
+    run.boundary();
+    run.host(&[2, 0, 0, 0]);
+    run.host(&[3, 8, 0, 0]);
+    run.boundary();
+    run.host(&[3, 8, 0, 0]);
+    run.host(&[3, 9, 0, 0]);
+}
+
+/// Mapping through the first map and through one with idle slots.
+fn run_mapped(run: &mut Run) {
+    run.map(496, 496);
+    run.map(7_936, 7_936);
+    run.map(0, 0);
+    run.map(495, 496);
+    run.map(497, 992);
+    run.map(8_432, 8_432);
+    run.map(495, 0);
+    run.map(496, 495);
+    run.map(992, 496);
+    run.map(496, 0);
+    run.map(496, 497);
+    run.key(1);
+    for slot in 1..=31 {
+        run.host(&[1, slot, 32 - slot, 0]);
+    }
+    run.host(&[1, 16, 0, 0]);
+    run.host(&[1, 31, 0, 0]);
+    run.host(&[1, 1, 7, 0]);
+    run.host(&[1, 2, 7, 0]);
+    run.map(496, 496);
+    run.host(&[2, 0, 0, 0]);
+    run.map(496, 496);
+    run.boundary();
+    run.map(496, 496);
+    run.key(0);
+    run.map(992, 992);
+    run.map(7_936, 7_937);
+    run.map(7_936, 7_935);
+    run.map(7_935, 7_935);
+    run.host(&[3, 16, 0, 0]);
+    run.host(&[3, 30, 0, 0]);
+}

@@ -1,0 +1,5 @@
+//! Prints the further bench cases.
+
+fn main() {
+    print!("{}", cases::all());
+}

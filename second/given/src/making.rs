@@ -1,0 +1,82 @@
+//! Images made from lines: moved, hit, and false from the start.
+
+use oracle::line::{bits, octets, FRAME, WORD};
+
+/// `front` 0 bits, the line, and 0 bits up to a whole octet.
+pub fn shifted(line: &[u8], front: usize) -> Vec<u8> {
+    let mut image = vec![0; front];
+    image.extend(bits(line));
+    whole_octets(&mut image, 0);
+    octets(&image)
+}
+
+/// Fills the last octet up with this bit.
+pub fn whole_octets(image: &mut Vec<u8>, bit: u8) {
+    while image.len() % 8 != 0 {
+        image.push(bit);
+    }
+}
+
+/// Turns over the bit at this place.
+pub fn flip(line: &mut [u8], place: usize) {
+    line[place / 8] ^= 128 >> (place % 8);
+}
+
+/// Makes the words of these frames wrong, by their last bit.
+pub fn wrong_words(line: &mut [u8], frames: &[usize]) {
+    for f in frames {
+        flip(line, f * FRAME + 7);
+    }
+}
+
+/// Makes the signals of these multiframes wrong, by their first bit.
+pub fn wrong_signals(line: &mut [u8], multiframes: &[usize]) {
+    for m in multiframes {
+        flip(line, (16 * m + 1) * FRAME);
+    }
+}
+
+/// Places with basic alignment and marks of any kind: even frames of nothing
+/// but words, a word begins at every seventh bit, and odd frames of ones. Bit
+/// 1 before each of those ones repeats `signals`, so it can hold signals with
+/// no pair.
+pub fn false_starts(count: usize, signals: &[u8]) -> Vec<u8> {
+    let mut image = vec![1; 8 * count];
+    for (f, frame) in image.chunks_mut(FRAME).enumerate() {
+        let words = frame.len() / 7;
+        for i in 0..words {
+            if f % 2 == 0 {
+                frame[7 * i..7 * i + 7].copy_from_slice(&WORD);
+            } else if i > 0 {
+                frame[7 * i - 1] = signals[f / 2 % signals.len()];
+            }
+        }
+    }
+    octets(&image)
+}
+
+/// As many places with basic alignment as there can be, for words cannot
+/// overlap: words and nothing else, in odd frames two bits later, so that a 1
+/// of theirs is where a word begins in an even frame, and the other way too.
+/// Every mark is 0.
+pub fn densest(count: usize) -> Vec<u8> {
+    let bit = |b: usize| WORD[(b % FRAME + 5 * (b / FRAME % 2)) % 7];
+    let image: Vec<u8> = (0..8 * count).map(bit).collect();
+    octets(&image)
+}
+
+#[cfg(test)]
+mod tests {
+    use super::*;
+    use oracle::line::word_at;
+
+    /// The densest false starts are as many as they are said to be.
+    #[test]
+    fn densest_is_dense() {
+        let image = bits(&densest(8_192));
+        let aligned =
+            |p: &usize| word_at(&image, *p) && image[p + 257] == 1 && word_at(&image, p + 512);
+        let count = (0..8 * 6_144).filter(aligned).count();
+        assert!(count >= 6_144 / 32 * 36 - 1, "{count}");
+    }
+}

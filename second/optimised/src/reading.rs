@@ -1,0 +1,139 @@
+//! Reading from the start. Slot 0 is gathered first, as loss, words, checks
+//! and E bits are all in it; then payload and blocks go by once.
+
+use crate::check::check;
+use crate::place;
+use oracle::Reading;
+
+fn refused(number: u64) -> Reading {
+    Reading {
+        number,
+        ..Reading::default()
+    }
+}
+
+/// As [`oracle::read`].
+pub fn read(image: &[u8], payload: &mut [u8], slot0: &mut [u8]) -> Reading {
+    if image.len() < 2_048 {
+        return refused(1);
+    }
+    if image.len() > 8_192 {
+        return refused(2);
+    }
+    let (p, k) = match place::first(image) {
+        Some(found) => found,
+        None => return refused(3),
+    };
+    let start = p + 512 * k;
+    let whole = (8 * image.len() - start) / 4_096;
+    let (line, o) = (&image[start / 8..], start % 8);
+    let mut slots = [0; 256];
+    gather(line, o, &mut slots[..16 * whole]);
+    let lost = loss(&slots[..16 * whole]);
+    let used = lost.map_or(whole, |f| f / 16);
+    if payload.len() < 496 * used || slot0.len() < 16 * used {
+        return refused(4);
+    }
+    let slots = &slots[..16 * used];
+    slot0[..16 * used].copy_from_slice(slots);
+    take(line, o, &mut payload[..496 * used]);
+    let (errored, farend) = compare(line, o, slots);
+    Reading {
+        number: 0,
+        place: p as u64,
+        start: start as u64,
+        whole: whole as u64,
+        used: used as u64,
+        lost: lost.unwrap_or(0) as u64,
+        words: slots.iter().step_by(2).filter(|s| wrong(**s)).count() as u64,
+        compared: (2 * used as u64).saturating_sub(1),
+        errored,
+        farend,
+    }
+}
+
+/// Slot 0 of every frame; o is the bit of an octet at which frames begin.
+fn gather(line: &[u8], o: usize, slots: &mut [u8]) {
+    for (frame, slot) in line.chunks(32).zip(slots) {
+        let two = u16::from_be_bytes([frame[0], frame[1]]);
+        *slot = (two >> (8 - o)) as u8;
+    }
+}
+
+/// Whether slot 0 of an even frame has a wrong word.
+fn wrong(slot: u8) -> bool {
+    slot & 0x7F != 0x1B
+}
+
+/// The first even frame that ends three wrong words in a row.
+fn loss(slots: &[u8]) -> Option<usize> {
+    let mut row = 0;
+    for (i, slot) in slots.iter().step_by(2).enumerate() {
+        row = if wrong(*slot) { row + 1 } else { 0 };
+        if row == 3 {
+            return Some(2 * i);
+        }
+    }
+    None
+}
+
+/// Slots 1 to 31 of every frame.
+fn take(line: &[u8], o: usize, payload: &mut [u8]) {
+    if o != 0 {
+        return take_moved(line, o, payload);
+    }
+    for (out, frame) in payload.chunks_exact_mut(31).zip(line.chunks_exact(32)) {
+        out.copy_from_slice(&frame[1..]);
+    }
+}
+
+/// The same where o is not 0: 32 octets go faster than 31, and the first of
+/// the next frame replaces what is too many.
+fn take_moved(line: &[u8], o: usize, payload: &mut [u8]) {
+    let last = match payload.len() / 31 {
+        0 => return,
+        frames => frames - 1,
+    };
+    for f in 0..last {
+        let out = &mut payload[31 * f..31 * f + 32];
+        out.copy_from_slice(&moved(&line[32 * f + 1..32 * f + 34], o));
+    }
+    let slots = &line[32 * last + 1..];
+    for (i, out) in payload[31 * last..].iter_mut().enumerate() {
+        *out = slots[i] << o | slots[i + 1] >> (8 - o);
+    }
+}
+
+/// The 32 octets that begin at bit o. By value, so that all are worked out at
+/// once and stored after.
+#[inline]
+fn moved(octets: &[u8], o: usize) -> [u8; 32] {
+    let mut moved: [u8; 32] = octets[..32].try_into().unwrap();
+    let next: [u8; 32] = octets[1..].try_into().unwrap();
+    for (octet, next) in moved.iter_mut().zip(&next) {
+        *octet = *octet << o | next >> (8 - o);
+    }
+    moved
+}
+
+/// The check bits that block b carries, C1 the bit worth 8.
+fn carried(slots: &[u8], b: usize) -> u8 {
+    let c = |i: usize| slots[8 * b + 2 * i] >> 7;
+    c(0) << 3 | c(1) << 2 | c(2) << 1 | c(3)
+}
+
+/// Blocks errored, and far-end errors.
+fn compare(line: &[u8], o: usize, slots: &[u8]) -> (u64, u64) {
+    let (mut errored, mut farend) = (0, 0);
+    for b in 1..slots.len() / 8 {
+        let agreed = check(&line[256 * (b - 1)..], o) == carried(slots, b);
+        if !agreed {
+            errored += 1;
+        } else if b % 2 == 0 {
+            // The block before is the second of its multiframe.
+            let e = |f: usize| u64::from(slots[8 * b - 16 + f] < 128);
+            farend += e(13) + e(15);
+        }
+    }
+    (errored, farend)
+}

@@ -1,0 +1,16 @@
+//! The kit a second time, written from the paper alone and as plainly as it
+//! reads: bits in lists, long division, maps in a struct. It shares nothing
+//! with the proved library, which the agreement tests hold to it.
+
+#![forbid(unsafe_code)]
+
+pub mod check;
+pub mod exchange;
+pub mod line;
+pub mod place;
+pub mod reading;
+pub mod writing;
+
+pub use exchange::{Answer, Exchange};
+pub use reading::{read, report, Reading};
+pub use writing::{write, Written};

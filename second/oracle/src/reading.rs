@@ -1,0 +1,135 @@
+//! Reading from the start.
+
+use crate::check::{carried, check};
+use crate::line::{bits, octets, word_at, BLOCK, FRAME, MULTIFRAME};
+use crate::place;
+
+/// What a read answers. Of a refusal all but the number is 0.
+#[derive(Clone, Copy, Debug, Default, PartialEq, Eq)]
+pub struct Reading {
+    pub number: u64,
+    pub place: u64,
+    pub start: u64,
+    pub whole: u64,
+    pub used: u64,
+    pub lost: u64,
+    pub words: u64,
+    pub compared: u64,
+    pub errored: u64,
+    pub farend: u64,
+}
+
+fn refused(number: u64) -> Reading {
+    Reading {
+        number,
+        ..Reading::default()
+    }
+}
+
+/// Reads an image from the first place that stands: slots 1 to 31 of the
+/// multiframes used go to `payload`, slot 0 of each of their frames to `slot0`.
+pub fn read(image: &[u8], payload: &mut [u8], slot0: &mut [u8]) -> Reading {
+    if image.len() < 2_048 {
+        return refused(1);
+    }
+    if image.len() > 8_192 {
+        return refused(2);
+    }
+    let image = bits(image);
+    let (p, k) = match place::first(&image) {
+        Some(found) => found,
+        None => return refused(3),
+    };
+    let start = p + 512 * k;
+    let whole = (image.len() - start) / MULTIFRAME;
+    let line = &image[start..start + whole * MULTIFRAME];
+    let lost = loss(line);
+    let used = lost.map_or(whole, |f| f / 16);
+    if payload.len() < 496 * used || slot0.len() < 16 * used {
+        return refused(4);
+    }
+    let line = &line[..used * MULTIFRAME];
+    take(line, payload, slot0);
+    let agreed = agreed(line);
+    Reading {
+        number: 0,
+        place: p as u64,
+        start: start as u64,
+        whole: whole as u64,
+        used: used as u64,
+        lost: lost.unwrap_or(0) as u64,
+        words: word_errors(line),
+        compared: agreed.len() as u64,
+        errored: agreed.iter().filter(|&&agreed| !agreed).count() as u64,
+        farend: far_end_errors(line, &agreed),
+    }
+}
+
+fn word_wrong(line: &[u8], f: usize) -> bool {
+    !word_at(line, f * FRAME)
+}
+
+/// The first even frame that ends three wrong words in a row.
+fn loss(line: &[u8]) -> Option<usize> {
+    let frames = line.len() / FRAME;
+    (4..frames)
+        .step_by(2)
+        .find(|&f| [f - 4, f - 2, f].iter().all(|&f| word_wrong(line, f)))
+}
+
+/// Slot 0 of every frame to one output, slots 1 to 31 to the other.
+fn take(line: &[u8], payload: &mut [u8], slot0: &mut [u8]) {
+    for (f, frame) in line.chunks(FRAME).enumerate() {
+        let slots = octets(frame);
+        slot0[f] = slots[0];
+        payload[31 * f..31 * (f + 1)].copy_from_slice(&slots[1..]);
+    }
+}
+
+fn word_errors(line: &[u8]) -> u64 {
+    let frames = line.len() / FRAME;
+    (0..frames)
+        .step_by(2)
+        .filter(|&f| word_wrong(line, f))
+        .count() as u64
+}
+
+/// For every block but the last, whether its check is what the next carries.
+fn agreed(line: &[u8]) -> Vec<bool> {
+    let blocks: Vec<&[u8]> = line.chunks(BLOCK).collect();
+    blocks
+        .windows(2)
+        .map(|pair| check(pair[0]) == carried(pair[1]))
+        .collect()
+}
+
+/// E bits that are 0, in multiframes whose second block agreed. That of the
+/// last multiframe was not compared.
+fn far_end_errors(line: &[u8], agreed: &[bool]) -> u64 {
+    let mut count = 0;
+    for (m, multiframe) in line.chunks(MULTIFRAME).enumerate() {
+        if agreed.get(2 * m + 1) == Some(&true) {
+            for f in [13, 15] {
+                count += u64::from(multiframe[f * FRAME] == 0);
+            }
+        }
+    }
+    count
+}
+
+/// What the report program prints for an image.
+pub fn report(image: &[u8]) -> String {
+    let r = read(image, &mut [0; 7_936], &mut [0; 256]);
+    if r.number != 0 {
+        return format!("refused {}\n", r.number);
+    }
+    // Three wrong words are needed first, so no loss is at frame 0.
+    let lost = match r.lost {
+        0 => "no".to_string(),
+        f => f.to_string(),
+    };
+    format!(
+        "place {}\nstart {}\nwhole {}\nused {}\nlost {}\nwords {}\ncompared {}\nerrored {}\nfarend {}\n",
+        r.place, r.start, r.whole, r.used, lost, r.words, r.compared, r.errored, r.farend
+    )
+}

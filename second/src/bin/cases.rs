@@ -1,5 +1,0 @@
-//! Prints the further bench cases.
-
-fn main() {
-    print!("{}", second::cases::all());
-}
