@@ -54,7 +54,8 @@ first-listed (r ∷ rs) = go (r .applies) (first-listed rs)
     go : (t : Bool) → among (firstOf rs) (0 ∷ numbers rs) ≡ true
         → among (if t then r .number else firstOf rs) (0 ∷ r .number ∷ numbers rs) ≡ true
     go true e =
-        or-right (eqb (r .number) 0) (eqb (r .number) (r .number) || among (r .number) (numbers rs)) (rw (same (r .number)))
+        or-right (eqb (r .number) 0) (eqb (r .number) (r .number) || among (r .number) (numbers rs))
+        (rw (same (r .number)))
     go false e = skip (eqb (firstOf rs) 0) (eqb (firstOf rs) (r .number)) (among (firstOf rs) (numbers rs)) e
 
 -- it tells which

@@ -67,7 +67,8 @@ module _ (s payload slot0 : List ℕ) (r : Reading) (payload' slot0' : List ℕ)
   octet-read f j l a b =
       let p = payloadOf s (r .start) (r .used) in
       ap (λ x. getD x (indexOf f j) 0) front
-      ∙ List·getD-append p (drop (496 * r .used) payload) 0 (indexOf f j) (omega (arith, reads.payload-length s (r .start) (r .used)))
+      ∙ List·getD-append p (drop (496 * r .used) payload) 0 (indexOf f j)
+      (omega (arith, reads.payload-length s (r .start) (r .used)))
       ∙ reads.slot-of s (r .start) (16 * r .used) f j l a b
 
   pub octet-0-read : (f : ℕ) → f < 16 * r .used → getD slot0' f 0 ≡ octetAt s (slotAt (r .start) f 0)
@@ -208,7 +209,8 @@ module _ (p o : List ℕ) (c n : ℕ) (g : Inputs p o c n) where
                   ∙ take-at (payloadOf line 0 n) (drop (496 * n) payload) (496 * n) (reads.payload-length line 0 n)
                   ∙ writes.payload-back g octets;
               overhead =
-                  tab-agree (8 * n) (λ h. overheadOf h (getD slot0' (2 * h + 1) 0)) (λ h. overheadOf h (octetAt line (slotAt 0 (2 * h + 1) 0)))
+                  tab-agree (8 * n) (λ h. overheadOf h (getD slot0' (2 * h + 1) 0))
+                  (λ h. overheadOf h (octetAt line (slotAt 0 (2 * h + 1) 0)))
                   (λ i l. ap (overheadOf i) (a .octet-0 (2 * i + 1) (omega (arith, all-n)) ∙ ap (λ x. octetAt line (slotAt x (2 * i + 1) 0)) at-0))
                   ∙ writes.overhead-back g;
             }

@@ -37,7 +37,8 @@ pub record Demand1 : Type 0 where
   -- in an accepted call output octets past the needed length keep what they held
   pub read-kept : (s payload slot0 : List ℕ) (r : Reading) (payload' slot0' : List ℕ)
       → Read s payload slot0 r payload' slot0' → r .number ≡ 0
-      → (drop (496 * r .used) payload' ≡ drop (496 * r .used) payload) × (drop (16 * r .used) slot0' ≡ drop (16 * r .used) slot0)
+      → (drop (496 * r .used) payload' ≡ drop (496 * r .used) payload)
+      × (drop (16 * r .used) slot0' ≡ drop (16 * r .used) slot0)
   pub write-kept : (p o : List ℕ) (c : ℕ) (out : List ℕ) (r : Written) (out' : List ℕ)
       → Wrote p o c out r out' → r .number ≡ 0 → drop (512 * multiframes p) out' ≡ drop (512 * multiframes p) out
   pub map-kept : (map payload out : List ℕ) (r : ℕ) (out' : List ℕ)

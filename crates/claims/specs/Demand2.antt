@@ -112,7 +112,8 @@ pub record Demand2 : Type 0 where
   -- two calls in a row, the check handed on, make one line
   pub joins : (p p' o o' : List ℕ) (c : ℕ) (x x' y y' : List ℕ) (r r' : Written) → Wrote p o c x r y → r .number ≡ 0
       → Wrote p' o' (r .check) x' r' y' → r' .number ≡ 0
-      → (take (512 * multiframes p) y ++ take (512 * multiframes p') y' ≡ written (p ++ p') (o ++ o') c (2 * (multiframes p + multiframes p')))
+      → (take (512 * multiframes p) y ++ take (512 * multiframes p') y'
+      ≡ written (p ++ p') (o ++ o') c (2 * (multiframes p + multiframes p')))
       × (r' .check ≡ carries (p ++ p') (o ++ o') c (2 * (multiframes p + multiframes p')))
   -- G.704's table leaves no bit open
   pub standard-single : (line line' p o : List ℕ) (c k k' n : ℕ) → ((i : ℕ) → getD line i 0 < 256)

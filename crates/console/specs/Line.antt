@@ -5,7 +5,8 @@ use mathlib.Core.Logic.{_⊎_}
 use Rattle.exchange.specs.declared.State.{State}
 use Rattle.exchange.specs.Runs.{Call, afterCall}
 use Rattle.console.specs.declared.parse.Asked.{Asked}
-use Rattle.console.specs.declared.parse.Asked.the-variants.{Key, Host, Boundary, Show, Picture, Wrong, Nothing, Quit}
+use Rattle.console.specs.declared.parse.Asked.the-variants.{Key, Host, Boundary, Show, Picture}
+use Rattle.console.specs.declared.parse.Asked.the-variants.{Wrong, Nothing, Quit}
 
 -- how many octets a host record has
 abbrev pub octetCount : Asked → ℕ

@@ -90,7 +90,8 @@ module _ (w : ℕ) (wide : 2 ≤ w) where
   pub step-lt : (r b : ℕ) → r < 2 ^ w → b < 2 → step w r b < 2 ^ w
   unfolding step
   step-lt r b hr hb =
-      xor-lt w ((2 * r + b) % 2 ^ w) (3 * ((2 * r + b) / 2 ^ w)) (mod-lt (2 * r + b) (pow-pos w)) (omega (arith, top r b hr hb, four))
+      xor-lt w ((2 * r + b) % 2 ^ w) (3 * ((2 * r + b) / 2 ^ w)) (mod-lt (2 * r + b) (pow-pos w))
+      (omega (arith, top r b hr hb, four))
 
   pub step-linear : (r s b c : ℕ) → r < 2 ^ w → s < 2 ^ w → b < 2 → c < 2
       → step w (bitXor r s) (bitXor b c) ≡ bitXor (step w r b) (step w s c)
@@ -114,7 +115,8 @@ module _ (w : ℕ) (wide : 2 ≤ w) where
   after-linear r s (b ∷ bs) [] hr hs hb hc e = absurd (suc-ne-zero (length bs) e)
   after-linear r s (b ∷ bs) (c ∷ cs) hr hs hb hc e =
       ap (λ x. after w x (plus bs cs)) (step-linear r s b c hr hs (hb 0) (hc 0))
-      ∙ after-linear (step w r b) (step w s c) bs cs (step-lt r b hr (hb 0)) (step-lt s c hs (hc 0)) (λ i. hb (suc i)) (λ i. hc (suc i)) (suc-inj e)
+      ∙ after-linear (step w r b) (step w s c) bs cs (step-lt r b hr (hb 0)) (step-lt s c hs (hc 0)) (λ i. hb (suc i))
+      (λ i. hc (suc i)) (suc-inj e)
 
   pub check-linear : (bs cs : List ℕ) → Bits bs → Bits cs → length bs ≡ length cs
       → check w (plus bs cs) ≡ bitXor (check w bs) (check w cs)
@@ -129,7 +131,8 @@ module _ (w : ℕ) (wide : 2 ≤ w) where
   pub check-lt : (bs : List ℕ) → Bits bs → check w bs < 2 ^ w
   unfolding check
   check-lt bs hb =
-      rw (after-append w 0 bs (zeros w)) (after-lt (after w 0 bs) (zeros w) (after-lt 0 bs (pow-pos w) hb) (zeros-bits w))
+      rw (after-append w 0 bs (zeros w))
+      (after-lt (after w 0 bs) (zeros w) (after-lt 0 bs (pow-pos w) hb) (zeros-bits w))
 
   -- no bit comes out: the register only shifts
   pub step-shift : (r b : ℕ) → 2 * r + b < 2 ^ w → step w r b ≡ 2 * r + b

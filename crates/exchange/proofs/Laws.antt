@@ -210,7 +210,8 @@ key-cases P s p h on off = go (eqb p 0) refl (eqb p 1) refl
 
 pub reading-keeps : (s : State) (r : List ℕ) → kindOf r ≡ 3 → hosted s r .state ≡ s
 reading-keeps s r k =
-    host-cases (λ t. t ≡ s) s r refl (λ z q. absurd (omega arith)) (λ z q. absurd (omega arith)) (λ z q. absurd (omega arith))
+    host-cases (λ t. t ≡ s) s r refl (λ z q. absurd (omega arith)) (λ z q. absurd (omega arith))
+    (λ z q. absurd (omega arith))
 
 -- With the flag off only a record of kind 3 is accepted, and none changes anything.
 module _ (s : State) (r : List ℕ) (off : s .flag ≡ false) where
@@ -258,7 +259,8 @@ waits-only-by-commit s (mapping p out) e w = (w, refl)
 pub waiting-only-by-commit : (s : State) (c : Call) → isCommit s c ≡ false → afterCall s c .waiting ≡ s .waiting
 unfolding afterCall isCommit
 waiting-only-by-commit s (host r) e =
-    host-cases (λ t. t .waiting ≡ s .waiting) s r refl (λ z q. refl) (λ z q. absurd (true≢false (rw (z, q) at e))) (λ z q. refl)
+    host-cases (λ t. t .waiting ≡ s .waiting) s r refl (λ z q. refl) (λ z q. absurd (true≢false (rw (z, q) at e)))
+    (λ z q. refl)
 waiting-only-by-commit s (key p) e = key-cases (λ t. t .waiting ≡ s .waiting) s p refl (λ q. refl) (λ q. refl)
 waiting-only-by-commit s boundary e = refl
 waiting-only-by-commit s (mapping p out) e = refl

@@ -64,7 +64,8 @@ unfolding afterRun afterCall quiet
 quiet-after s [] off = refl
 quiet-after s (host r ∷ cs) off = ap (λ t. afterRun t cs) (locked-out s r off) ∙ quiet-after s cs off
 quiet-after s (key p ∷ cs) off =
-    behind-key (eqb p 1) _ (afterRun (afterCall s (key p))) cs (quiet cs) (λ e. refl) (λ e. quiet-after (afterCall s (key p)) cs (stays-off s p e off))
+    behind-key (eqb p 1) _ (afterRun (afterCall s (key p))) cs (quiet cs) (λ e. refl)
+    (λ e. quiet-after (afterCall s (key p)) cs (stays-off s p e off))
 quiet-after s (boundary ∷ cs) off = quiet-after (afterCall s boundary) cs off
 quiet-after s (mapping p out ∷ cs) off = quiet-after s cs off
 
@@ -125,7 +126,8 @@ pub live-without-key : (s : State) (cs : List Call) → anyCall isKeyOn (afterCa
     → afterRun s (key 0 ∷ cs) .live ≡ s .live
 unfolding afterCall afterRun isKeyOn keyRefusal
 live-without-key s cs e =
-    kept-by-run (λ t. (t .flag ≡ false) × (t .pending ≡ false) × (t .live ≡ s .live)) isKeyOn keeps (keyOff s) cs e (refl, refl, refl) .2
+    kept-by-run (λ t. (t .flag ≡ false) × (t .pending ≡ false) × (t .live ≡ s .live)) isKeyOn keeps (keyOff s) cs e
+    (refl, refl, refl) .2
   where
     keeps : (t : State) (c : Call) → isKeyOn t c ≡ false
         → (t .flag ≡ false) × (t .pending ≡ false) × (t .live ≡ s .live)

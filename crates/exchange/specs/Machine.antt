@@ -138,7 +138,8 @@ keyRefusal position = firstOf (keyRefusals position)
 
 abbrev pub keyed : State → ℕ → Answered
 keyed s position =
-    accepted (keyRefusal position) (accept (if eqb position 1 then keyOn s else keyOff s) 0) (refuse s (keyRefusal position))
+    accepted (keyRefusal position) (accept (if eqb position 1 then keyOn s else keyOff s) 0)
+    (refuse s (keyRefusal position))
 
 -- A multiframe boundary: the waiting map is live, if there is one, and then nothing waits any more.
 

@@ -51,7 +51,8 @@ answerOf values = take 16 (values ++ replicate 16 0)
 unfoldable pub readingPlaces : Reading → List ℕ
 readingPlaces r =
     answerOf
-    (r .number ∷ r .place ∷ r .start ∷ r .whole ∷ r .used ∷ r .lost ∷ r .words ∷ r .compared ∷ r .errored ∷ r .farend ∷ [])
+    (r .number ∷ r .place ∷ r .start ∷ r .whole ∷ r .used ∷ r .lost
+    ∷ r .words ∷ r .compared ∷ r .errored ∷ r .farend ∷ [])
 
 -- number and value to places 0 and 1: a check that was written, or an entry that a host record reads
 unfoldable pub pairPlaces : ℕ → ℕ → List ℕ

@@ -46,7 +46,8 @@ not-one x zero (suc m) h g e =
 not-one x (suc n) (suc m) h g e =
     let l : x < 2 ^ m * 2 = rw pow-suc at h in
     let half : (2 ^ m * 2 - 1 - x) / 2 ≡ 2 ^ m - 1 - x / 2 = omega arith in
-    rw (pow-suc 2 m, halved (2 ^ m * 2 - 1 - x) n, half) (not-one (x / 2) n m (omega arith) (omega arith) (rw (halved x n) at e))
+    rw (pow-suc 2 m, halved (2 ^ m * 2 - 1 - x) n, half)
+    (not-one (x / 2) n m (omega arith) (omega arith) (rw (halved x n) at e))
 
 -- no bit of 0 is 1
 pub zero-none : (n : ℕ) → One 0 n → ⊥

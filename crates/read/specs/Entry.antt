@@ -87,5 +87,7 @@ reading s a b = accepted (refusal s a b) (accept s) (refuse (refusal s a b))
 -- what `read` returns, and leaves in the outputs
 pub record Read (s payload slot0 : List ℕ) (r : Reading) (payload' slot0' : List ℕ) : Type 0 where
   pub its-answer : r ≡ reading s (length payload) (length slot0)
-  pub its-payload : payload' ≡ accepted (r .number) (payloadOf s (startIn s) (usedIn s) ++ drop (496 * usedIn s) payload) payload
-  pub its-slot0 : slot0' ≡ accepted (r .number) (slot0Of s (startIn s) (usedIn s) ++ drop (16 * usedIn s) slot0) slot0
+  pub its-payload : payload'
+      ≡ accepted (r .number) (payloadOf s (startIn s) (usedIn s) ++ drop (496 * usedIn s) payload) payload
+  pub its-slot0 : slot0'
+      ≡ accepted (r .number) (slot0Of s (startIn s) (usedIn s) ++ drop (16 * usedIn s) slot0) slot0

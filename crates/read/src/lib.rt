@@ -216,7 +216,8 @@ fn refused(number: u64) -> Reading
 // from the first place that stands, with its least k
 fn read_from(image: &[u8], place: usize, k: usize, payload: &mut [u8], slot0: &mut [u8]) -> Reading
     requires { ⌜ GoodLength (now image) × (firstStanding (now image) ≡ some (record { place = place; k = k })) ⌝ }
-    ensures { λ r. ⌜ Read (now (image .entry)) (now (payload .entry)) (now (slot0 .entry)) r (now (payload .exit)) (now (slot0 .exit)) ⌝ }
+    ensures { λ r. ⌜ Read (now (image .entry)) (now (payload .entry)) (now (slot0 .entry))
+        r (now (payload .exit)) (now (slot0 .exit)) ⌝ }
 {
     let start = place + 512 * k;
     let whole = (8 * image.len() - start) / 4096;
@@ -244,7 +245,8 @@ fn read_from(image: &[u8], place: usize, k: usize, payload: &mut [u8], slot0: &m
 
 // An image is read: its payload and its slots 0 go to the two outputs.
 pub fn read(image: &[u8], payload: &mut [u8], slot0: &mut [u8]) -> Reading
-    ensures { λ r. ⌜ Read (now (image .entry)) (now (payload .entry)) (now (slot0 .entry)) r (now (payload .exit)) (now (slot0 .exit)) ⌝ }
+    ensures { λ r. ⌜ Read (now (image .entry)) (now (payload .entry)) (now (slot0 .entry))
+        r (now (payload .exit)) (now (slot0 .exit)) ⌝ }
 {
     if image.len() < 2048 {
         return refused(1);

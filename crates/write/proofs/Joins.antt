@@ -102,7 +102,8 @@ module _ (p o : List ℕ) (n : ℕ) where
         let k' = carries laterPayload laterOverhead k b in
         ap (written p o c) (add-suc (2 * n) b)
         ∙ ap₂ (λ x y. x ++ y) (later-written b) (ap (λ x. block p o x (2 * n + b)) (later-carries b) ∙ later-block k' b)
-        ∙ append-assoc (written p o c (2 * n)) (written laterPayload laterOverhead k b) (block laterPayload laterOverhead k' b)
+        ∙ append-assoc (written p o c (2 * n)) (written laterPayload laterOverhead k b)
+        (block laterPayload laterOverhead k' b)
 
 -- n multiframes, and then m
 module _ (p p' o o' : List ℕ) (c n m : ℕ) (hp : length p ≡ 496 * n) (ho : length o ≡ 8 * n) where
@@ -118,7 +119,8 @@ module _ (p p' o o' : List ℕ) (c n m : ℕ) (hp : length p ≡ 496 * n) (ho : 
   pub carries-join : carries (p ++ p') (o ++ o') c (2 * (n + m)) ≡ carries p' o' (carries p o c (2 * n)) (2 * m)
   carries-join =
       ap (carries (p ++ p') (o ++ o') c) all ∙ later-carries (p ++ p') (o ++ o') n c (2 * m)
-      ∙ ap₂ (λ x y. carries x y (carries (p ++ p') (o ++ o') c (2 * n)) (2 * m)) (drop-at p p' (496 * n) hp) (drop-at o o' (8 * n) ho)
+      ∙ ap₂ (λ x y. carries x y (carries (p ++ p') (o ++ o') c (2 * n)) (2 * m)) (drop-at p p' (496 * n) hp)
+      (drop-at o o' (8 * n) ho)
       ∙ ap (λ k. carries p' o' k (2 * m)) handed-on
 
   pub written-join : written (p ++ p') (o ++ o') c (2 * (n + m)) ≡ written p o c (2 * n) ++ written p' o' (carries p o c (2 * n)) (2 * m)

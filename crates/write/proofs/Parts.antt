@@ -110,7 +110,8 @@ part-inputs p o c n m k g h hk =
           elim (decLt i 8) [
             | yes l ↦
                 let e : (8 * m + i) % 8 ≡ i % 8 = omega arith in
-                rw (getD-take (8 * m + 8 - 8 * m) (drop (8 * m) o) i 0 (omega arith), getD-drop (8 * m) o i 0, ← e) (g .limited (8 * m + i))
+                rw (getD-take (8 * m + 8 - 8 * m) (drop (8 * m) o) i 0 (omega arith), getD-drop (8 * m) o i 0, ← e)
+                (g .limited (8 * m + i))
             | no l ↦
                 let short = part-length (8 * m) (8 * m + 8) o (omega arith) in
                 rw (List·getD-eq-default (overheadPart m o) 0 {n = i} (omega arith)) (limit-range i .0)
@@ -131,7 +132,8 @@ module _ (p o : List ℕ) (c m : ℕ) where
 
   next-carries : carries (payloadPart m p) (overheadPart m o) (carries p o c (2 * m)) 2 ≡ carries p o c (2 * (m + 1))
   next-carries =
-      same-carries (payloadPart m p) (drop (496 * m) p) (overheadPart m o) (drop (8 * m) o) (carries p o c (2 * m)) 2 shown
+      same-carries (payloadPart m p) (drop (496 * m) p) (overheadPart m o) (drop (8 * m) o)
+      (carries p o c (2 * m)) 2 shown
       ∙ sym (later-carries p o m c 2) ∙ ap (carries p o c) two
 
   next-written : written p o c (2 * m) ++ written (payloadPart m p) (overheadPart m o) (carries p o c (2 * m)) 2 ≡ written p o c (2 * (m + 1))

@@ -96,7 +96,8 @@ fn write_multiframe(payload: &[u8], overhead: &[u8], k: u8, out: &mut [u8]) -> u
 // n multiframes, each with its part of the payload, of the overhead and of the output, and the check of the last block
 fn write_all(payload: &[u8], overhead: &[u8], k: u8, n: usize, out: &mut [u8]) -> u8
     requires { ⌜ Inputs (now payload) (now overhead) k n × (512 * n ≤ length (now out)) ⌝ }
-    ensures { λ _. ⌜ now (out .exit) ≡ written (now (payload .entry)) (now (overhead .entry)) k (2 * n) ++ drop (512 * n) (now (out .entry)) ⌝ }
+    ensures { λ _. ⌜ now (out .exit)
+        ≡ written (now (payload .entry)) (now (overhead .entry)) k (2 * n) ++ drop (512 * n) (now (out .entry)) ⌝ }
     ensures { λ r. ⌜ r ≡ carries (now (payload .entry)) (now (overhead .entry)) k (2 * n) ⌝ }
 {
     let mut c = k;
@@ -162,7 +163,8 @@ fn refusal(payload: &[u8], overhead: &[u8], check: u64, m: usize) -> u64
 
 // whole multiframes from the payload and the overhead, the first block carrying check
 pub fn write(payload: &[u8], overhead: &[u8], check: u64, out: &mut [u8]) -> Written
-    ensures { λ r. ⌜ Wrote (now (payload .entry)) (now (overhead .entry)) check (now (out .entry)) r (now (out .exit)) ⌝ }
+    ensures { λ r. ⌜ Wrote (now (payload .entry)) (now (overhead .entry)) check (now (out .entry))
+        r (now (out .exit)) ⌝ }
 {
     let number = refusal(payload, overhead, check, out.len());
     if number != 0 {

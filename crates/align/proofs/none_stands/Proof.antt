@@ -26,7 +26,8 @@ module _ (s : List ℕ) (i o : ℕ) (m : List ℕ) (h : o < 64) (marks : Marks s
   pair-one : (g : List ℕ) (r k : ℕ) → Signals m 27 g → Pairs g 19 r → Pair s (8 * i + o) k → One r (63 - o)
   pair-one g r k signals pairs e =
       let at : (l : ℕ) → l < 27 → Signal s (8 * i + o) l → One (getD g l 0) (63 - o) = λ l b f. signals l b (63 - o) (omega arith) (signal-marks l b f) in
-      pairs k (omega arith) (63 - o) (at k (omega arith) (e .here)) (e .j) (e .least-j) (e .most-j) (at (k + 8 * e .j) (omega arith) (e .again))
+      pairs k (omega arith) (63 - o) (at k (omega arith) (e .here)) (e .j) (e .least-j) (e .most-j)
+      (at (k + 8 * e .j) (omega arith) (e .again))
 
 -- no bit is left
 none-left : (x n : ℕ) → x ≡ 0 → One x n → ⊥

@@ -47,16 +47,19 @@ module _ (v w : ℕ) (lv : v < 2 ^ 64) (lw : w < 2 ^ 64) where
 
     here : One threes n
     here =
-        three n (omega arith) (none 4 2 (n + 2) refl refl refl) (ones 5 1 (n + 1) refl refl refl) (ones 6 0 n refl refl (omega arith))
+        three n (omega arith) (none 4 2 (n + 2) refl refl refl) (ones 5 1 (n + 1) refl refl refl)
+        (ones 6 0 n refl refl (omega arith))
 
     above : One threes (n + 3)
     above =
         three (n + 3) (omega arith)
-        (none 1 5 (n + 3 + 2) refl refl (omega arith)) (ones 2 4 (n + 3 + 1) refl refl (omega arith)) (ones 3 3 (n + 3) refl refl refl)
+        (none 1 5 (n + 3 + 2) refl refl (omega arith)) (ones 2 4 (n + 3 + 1) refl refl (omega arith))
+        (ones 3 3 (n + 3) refl refl refl)
 
     whole : One (bitAnd (bitAnd (2 ^ 64 - 1 - any / 2 ^ 6) (threes / 2 ^ 3)) threes) n
     whole =
-        and-one _ _ n (and-one _ _ n (turned-one any n 6 few (omega arith) (none 0 6 (n + 6) refl refl refl)) (shifted-one threes n 3 above)) here
+        and-one _ _ n
+        (and-one _ _ n (turned-one any n 6 few (omega arith) (none 0 6 (n + 6) refl refl refl)) (shifted-one threes n 3 above)) here
 
 returns : tie.Need-returns
 returns c n h e f = whole (c .args .v) (c .args .w) (omega arith) (omega arith) n h e f

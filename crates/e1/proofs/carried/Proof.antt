@@ -9,6 +9,7 @@ pub carried-spec : {M : Type 1} → statement M
 carried-spec =
     tie.close
     (tie.spec
-    (search needs) (omega arith) (search needs) (search needs) (omega arith) (omega arith) (search needs) (search needs) (omega arith)
+    (search needs) (omega arith) (search needs) (search needs) (omega arith) (omega arith) (search needs)
+    (search needs) (omega arith)
     (omega arith) (search needs) (search needs) (omega arith)
     (λ c. let a = c .before .before .before .before .before .args in omega (arith, carried-four (a .s .now) (a .q))))

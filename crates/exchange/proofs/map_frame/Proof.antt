@@ -49,7 +49,8 @@ returns c =
     let l = c .before .loop in
     let a = c .before .before .before .before .before .args in
     let e : l .i ≡ length (now (a .frame)) = omega arith in
-    tab-fill (l .out) (length (now (a .frame))) (octetOf (now (a .map)) (now (a .frame))) (omega arith) (rw e at (l .inv .2))
+    tab-fill (l .out) (length (now (a .frame))) (octetOf (now (a .map)) (now (a .frame))) (omega arith)
+    (rw e at (l .inv .2))
 
 pub map-frame-spec : {M : Type 1} → statement M
 unfolding tabFrom

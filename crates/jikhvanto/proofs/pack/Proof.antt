@@ -24,7 +24,8 @@ returns c =
     let e = f .before .before .before .before in
     let d = e .before .before .before .before in
     let s = d .before .before .before .before .before .before .before .before .before .args .state in
-    packed s (d .copy .last .1 .0) (omega arith) (e .copy2 .last .1 .0) (omega arith) (d .copy .ensures) (e .copy2 .ensures) (f .copy3 .ensures)
+    packed s (d .copy .last .1 .0) (omega arith) (e .copy2 .last .1 .0) (omega arith) (d .copy .ensures)
+    (e .copy2 .ensures) (f .copy3 .ensures)
 
 pub pack-spec : {M : Type 1} → statement M
 pack-spec =

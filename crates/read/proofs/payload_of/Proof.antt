@@ -12,7 +12,8 @@ use Rattle.read.proofs.payload_of.Tie as tie
 
 abbrev Inv-loop : tie.InvT-loop
 Inv-loop s q g out₀ m₀ out m =
-    (m ≤ g) × (length out ≡ length out₀) × (take (496 * m) out ≡ slots s q (16 * m)) × (drop (496 * m) out ≡ drop (496 * m) out₀)
+    (m ≤ g) × (length out ≡ length out₀) × (take (496 * m) out ≡ slots s q (16 * m)) ×
+    (drop (496 * m) out ≡ drop (496 * m) out₀)
 
 abbrev μ-loop : tie.MeasureT-loop
 μ-loop s q g out₀ m₀ out m = g - m
@@ -35,9 +36,11 @@ loop-again c =
     let y = w .put-multiframe .last .1 .1 .0 in (
       omega arith,
       c .before .out .given .1 ∙ l .loop .inv .1,
-      part-more (a .s .now) (a .q) (16 * m) 16 (496 * m) (496 * m + 496) o y (omega arith) refl (omega arith) (w .put-multiframe .ensures)
+      part-more (a .s .now) (a .q) (16 * m) 16 (496 * m) (496 * m + 496) o y (omega arith) refl (omega arith)
+          (w .put-multiframe .ensures)
           (496 * (m + 1)) (16 * (m + 1)) (omega arith) (omega arith) (l .loop .inv .2),
-      part-rest (a .s .now) (a .q) (16 * m) 16 (496 * m) (496 * m + 496) o y (omega arith) refl (omega arith) (w .put-multiframe .ensures)
+      part-rest (a .s .now) (a .q) (16 * m) 16 (496 * m) (496 * m + 496) o y (omega arith) refl (omega arith)
+          (w .put-multiframe .ensures)
           (496 * (m + 1)) (a .out .now) (omega arith) (l .loop .inv .3),
     )
 
@@ -45,7 +48,8 @@ returns : tie.Need-returns Inv-loop μ-loop
 returns c =
     let l = c .before in
     let a = l .before .before .before .args in
-    slots-kept (a .s .now) (l .loop .out) (a .out .now) (a .q) (l .loop .m) (a .g) (omega arith) (l .loop .inv .2) (l .loop .inv .3)
+    slots-kept (a .s .now) (l .loop .out) (a .out .now) (a .q) (l .loop .m) (a .g) (omega arith) (l .loop .inv .2)
+    (l .loop .inv .3)
 
 pub payload-of-spec : {M : Type 1} → statement M
 payload-of-spec =

@@ -36,7 +36,8 @@ loop-again c =
     let h = l .loop .h in (
       omega arith,
       c .before .out .given .1 ∙ l .loop .inv .1,
-      run-more (a .s .now) (a .q) (15 * h) (octets h) (l .loop .out) (w .put-run .last .1 .1 .0) (omega arith) (omega arith) (omega arith) (w .put-run .ensures)
+      run-more (a .s .now) (a .q) (15 * h) (octets h) (l .loop .out) (w .put-run .last .1 .1 .0) (omega arith)
+          (omega arith) (omega arith) (w .put-run .ensures)
           (l .loop .inv .2) (octets (h + 1)) (omega arith),
     )
 
@@ -45,7 +46,8 @@ unfolding slots
 returns c =
     let l = c .before in
     let a = l .before .before .before .args in
-    octets-full (l .loop .out) (octets (l .loop .h)) 31 (octetOf (a .s .now) (a .q)) (omega arith) (omega arith) (l .loop .inv .2)
+    octets-full (l .loop .out) (octets (l .loop .h)) 31 (octetOf (a .s .now) (a .q)) (omega arith) (omega arith)
+    (l .loop .inv .2)
 
 pub put-frame-spec : {M : Type 1} → statement M
 unfolding tabFrom

@@ -31,7 +31,8 @@ loop-again c =
     let f = l .loop .f in (
       omega arith,
       c .before .out .given .1 ∙ l .loop .inv .1,
-      part-more (a .s .now) (a .q) f 1 (31 * f) (31 * f + 31) (l .loop .out) (w .put-frame .last .1 .1 .0) refl refl (omega arith) (w .put-frame .ensures)
+      part-more (a .s .now) (a .q) f 1 (31 * f) (31 * f + 31) (l .loop .out) (w .put-frame .last .1 .1 .0) refl refl
+          (omega arith) (w .put-frame .ensures)
           (31 * (f + 1)) (f + 1) (omega arith) refl (l .loop .inv .2),
     )
 

@@ -15,14 +15,16 @@ returns c =
     let a = c .before .before .before .before .before .args in
     let p = a .payload .now in
     let o = a .slot0 .now in
-    rw (c .refused .ensures) (refused-as (a .image .now) p o 0 (number-1 (a .image .now) (length p) (length o) .1 (c .before .if1 .taken)))
+    rw (c .refused .ensures)
+    (refused-as (a .image .now) p o 0 (number-1 (a .image .now) (length p) (length o) .1 (c .before .if1 .taken)))
 
 returns-2 : tie.Need-returns-2
 returns-2 c =
     let a = c .before .before .before .before .before .before .args in
     let p = a .payload .now in
     let o = a .slot0 .now in
-    rw (c .refused2 .ensures) (refused-as (a .image .now) p o 1 (number-2 (a .image .now) (length p) (length o) .1 (c .before .if2 .taken)))
+    rw (c .refused2 .ensures)
+    (refused-as (a .image .now) p o 1 (number-2 (a .image .now) (length p) (length o) .1 (c .before .if2 .taken)))
 
 -- past the first two tests
 good : (c : tie.Else2) → GoodLength (c .before .before .before .before .before .args .image .now)

@@ -27,7 +27,8 @@ Facts c =
 facts : (c : tie.After-track) → Facts c
 facts c =
     let d = c .before .before .before .before in
-    measured (d .args .image .now) (d .pre .0) (d .args .place) (d .args .k) (d .pre .1) _ _ (c .track .result .used) refl refl (c .track .ensures .1)
+    measured (d .args .image .now) (d .pre .0) (d .args .place) (d .args .k) (d .pre .1) _ _
+    (c .track .result .used) refl refl (c .track .ensures .1)
 
 returns : tie.Need-returns
 returns c =
@@ -61,7 +62,8 @@ returns-2 c =
     let p = d .args .payload .now in
     let o = d .args .slot0 .now in
     let few = e .if1 .left in
-    answered s (d .pre .0) (d .args .place) (d .args .k) (d .pre .1) _ _ (t .track .result .used) refl refl (t .track .ensures .1)
+    answered s (d .pre .0) (d .args .place) (d .args .k) (d .pre .1) _ _ (t .track .result .used) refl refl
+    (t .track .ensures .1)
     p o _ _ _ (accepts s (length p) (length o) (d .pre .0) _ (d .pre .1) (rw (facts t .upto) at few))
     refl refl refl refl refl
     (t .track .ensures .0)

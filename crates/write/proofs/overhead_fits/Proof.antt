@@ -15,7 +15,8 @@ use Rattle.write.proofs.overhead_fits.Tie as tie
 
 abbrev Inv-loop : tie.InvT-loop
 Inv-loop overhead n h₀ h-end h =
-    (h ≤ 8 * n) × (h-end ≡ 8 * n) × (length overhead ≡ 8 * n) × (all h (λ i. ltb (getD overhead i 0) (overheadLimit i)) ≡ true)
+    (h ≤ 8 * n) × (h-end ≡ 8 * n) × (length overhead ≡ 8 * n) ×
+    (all h (λ i. ltb (getD overhead i 0) (overheadLimit i)) ≡ true)
 
 abbrev μ-loop : tie.MeasureT-loop
 μ-loop overhead n h₀ h-end h = 8 * n - h

@@ -13,7 +13,8 @@ use Rattle.write.proofs.write_all.Tie as tie
 
 abbrev Inv-loop : tie.InvT-loop
 Inv-loop payload overhead k n out₀ c₀ m₀ out c m =
-    (m ≤ n) × (length out ≡ length out₀) × (c ≡ carries payload overhead k (2 * m)) × (take (512 * m) out ≡ written payload overhead k (2 * m))
+    (m ≤ n) × (length out ≡ length out₀) × (c ≡ carries payload overhead k (2 * m)) ×
+    (take (512 * m) out ≡ written payload overhead k (2 * m))
     × (drop (512 * m) out ≡ drop (512 * m) out₀)
 
 abbrev μ-loop : tie.MeasureT-loop
@@ -41,7 +42,8 @@ loop-again c =
     let a = l .before .before .before .before .args in
     let i = l .loop .inv in
     let e = all-more (a .payload .now) (a .overhead .now) (a .k) (l .loop .m) (l .loop .c) (w .write-multiframe .result) (l .loop .out)
-    (w .write-multiframe .last .1 .1 .1 .0) (a .out .now) (omega arith) (i .2) (w .write-multiframe .ensures .0) (w .write-multiframe .ensures .1)
+    (w .write-multiframe .last .1 .1 .1 .0) (a .out .now) (omega arith) (i .2) (w .write-multiframe .ensures .0)
+    (w .write-multiframe .ensures .1)
     (i .3) (i .4) in
     (omega arith, omega (arith, c .before .out .given .1), e .2, e .0, e .1)
 
@@ -50,7 +52,8 @@ returns c =
     let l = c .before in
     let a = l .before .before .before .before .args in
     let i = l .loop .inv in
-    all-done (a .payload .now) (a .overhead .now) (a .k) (l .loop .m) (a .n) (l .loop .c) (l .loop .out) (a .out .now) (omega arith) (i .2) (i .3) (i .4)
+    all-done (a .payload .now) (a .overhead .now) (a .k) (l .loop .m) (a .n) (l .loop .c) (l .loop .out) (a .out .now)
+    (omega arith) (i .2) (i .3) (i .4)
 
 pub write-all-spec : {M : Type 1} → statement M
 write-all-spec =

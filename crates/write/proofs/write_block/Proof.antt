@@ -33,7 +33,8 @@ loop-again c =
     let a = l .before .before .before .before .args in (
       omega arith,
       omega (arith, c .before .out .given .1),
-      block-more (a .payload .now) (a .overhead .now) (a .k) (a .b) (l .loop .i) (s .slot-0 .result) (l .loop .out) (w .write-frame .last .1 .1 .0)
+      block-more (a .payload .now) (a .overhead .now) (a .k) (a .b) (l .loop .i) (s .slot-0 .result) (l .loop .out)
+          (w .write-frame .last .1 .1 .0)
           (omega arith) (s .slot-0 .ensures) (w .write-frame .ensures) (l .loop .inv .2),
     )
 

@@ -29,8 +29,10 @@ returns c =
     let s = w₁ .before .before .before .before .before in
     let a = s .args in
     multiframe-done (a .payload .now) (a .overhead .now) (a .k) (a .out .now)
-    (w₁ .write-block .last .1 .1 .1 .1 .0) (w₂ .write-block2 .last .1 .1 .1 .1 .0) (w₁ .write-block .result) (w₂ .write-block2 .result)
-    (s .pre .1) (w₁ .write-block .ensures .0) (w₁ .write-block .ensures .1 .0) (w₂ .write-block2 .ensures .0) (w₂ .write-block2 .ensures .1 .0)
+    (w₁ .write-block .last .1 .1 .1 .1 .0) (w₂ .write-block2 .last .1 .1 .1 .1 .0) (w₁ .write-block .result)
+    (w₂ .write-block2 .result)
+    (s .pre .1) (w₁ .write-block .ensures .0) (w₁ .write-block .ensures .1 .0) (w₂ .write-block2 .ensures .0)
+    (w₂ .write-block2 .ensures .1 .0)
 
 pub write-multiframe-spec : {M : Type 1} → statement M
 write-multiframe-spec =
