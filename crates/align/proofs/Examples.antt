@@ -6,10 +6,9 @@ use mathlib.Core.List.{List, _∷_}
 use mathlib.Core.Option.{none, some}
 use lib.Dec.{eqb, leb}
 use lib.ListN.{getD}
-use Rattle.line.specs.Spelt.{spelt}
-use Rattle.line.specs.Bit.{bitAt, field}
-use Rattle.base.specs.Tab.{tab, tabFrom, all, first}
-use Rattle.e1.specs.Frame.{signal}
+use Rattle.line.specs.Bit.{bitAt}
+use Rattle.base.specs.Tab.{tab, tabFrom, sum, all, first}
+use Rattle.e1.specs.Frame.{wrongBits, signal}
 use Rattle.align.specs.Place.{basic, signalAt, pairAt, standing, firstStanding}
 
 -- n octets: the word in every other frame; m(k) is 1 before a, and from there on the signal and two 0s over and over
@@ -19,22 +18,22 @@ image a n =
     (λ i. cond (eqb (i % 64) 0) 27 (cond (eqb (i % 64) 32) (64 + 128 * cond (leb a (i / 64)) (getD signal ((i / 64 - a) % 8) 0) 1) 0))
 
 at-once : firstStanding (image 0 2048) ≡ some (record { place = 0; k = 0 })
-unfolding image firstStanding first standing basic pairAt signalAt all bitAt field spelt tabFrom
+unfolding image firstStanding first standing basic pairAt signalAt all bitAt wrongBits sum tabFrom
 at-once = refl
 
 an-octet-on : firstStanding (0 ∷ image 0 2048) ≡ some (record { place = 8; k = 0 })
-unfolding image firstStanding first standing basic pairAt signalAt all bitAt field spelt tabFrom
+unfolding image firstStanding first standing basic pairAt signalAt all bitAt wrongBits sum tabFrom
 an-octet-on = refl
 
 an-octet-short : firstStanding (image 0 2047) ≡ none
-unfolding image firstStanding first standing basic pairAt signalAt all bitAt field spelt tabFrom
+unfolding image firstStanding first standing basic pairAt signalAt all bitAt wrongBits sum tabFrom
 an-octet-short = refl
 
 -- 18 is the last k that there is
 last-k : firstStanding (image 18 2048) ≡ some (record { place = 0; k = 18 })
-unfolding image firstStanding first standing basic pairAt signalAt all bitAt field spelt tabFrom
+unfolding image firstStanding first standing basic pairAt signalAt all bitAt wrongBits sum tabFrom
 last-k = refl
 
 past-the-last-k : firstStanding (image 19 2048) ≡ none
-unfolding image firstStanding first standing basic pairAt signalAt all bitAt field spelt tabFrom
+unfolding image firstStanding first standing basic pairAt signalAt all bitAt wrongBits sum tabFrom
 past-the-last-k = refl

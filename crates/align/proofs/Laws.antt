@@ -15,6 +15,7 @@ use Rattle.base.specs.Tab.{least}
 use Rattle.base.proofs.ChoiceLaws.{denies}
 use Rattle.base.proofs.TabLaws.{all-at, at-all, least-some, least-none, first-some, first-none, none-first, some-first}
 use Rattle.e1.specs.Frame.{wordAt, signal}
+use Rattle.e1.proofs.WordLaws.{word-holds}
 use Rattle.align.specs.Place.{basic, mark, signalAt, againAt, pairAt, Standing, withPlace, standing}
 use Rattle.align.specs.Place.{firstStanding, found}
 use Rattle.align.specs.Stands.{Basic, Signal, Pair, Stands, StandsFirst}
@@ -48,10 +49,16 @@ module _ (s : List ℕ) (p : ℕ) where
       there e =
           let a = and-eq-true-iff (wordAt s p) (eqb (bitAt s (p + 257)) 1 && wordAt s (p + 512)) .0 e in
           let b = and-eq-true-iff (eqb (bitAt s (p + 257)) 1) (wordAt s (p + 512)) .0 (a .1) in
-          record { word = eqb-true _ _ (a .0); bit-2 = eqb-true _ _ (b .0); word-again = rw next at (eqb-true (field s (p + 512 + 1) 7) 27 (b .1)) }
+          record {
+            word = word-holds s p .0 (a .0);
+            bit-2 = eqb-true _ _ (b .0);
+            word-again = rw next at (word-holds s (p + 512) .0 (b .1));
+          }
 
       back : Basic s p → basic s p ≡ true
-      back h = rw (next, eq-eqb _ _ (h .word), eq-eqb _ _ (h .bit-2), eq-eqb _ _ (h .word-again))
+      back h =
+          let again : field s (p + 512 + 1) 7 ≡ 27 = rw next (h .word-again) in
+          rw (word-holds s p .1 (h .word), eq-eqb _ _ (h .bit-2), word-holds s (p + 512) .1 again)
 
   pub signal-holds : (k : ℕ) → signalAt s p k ≡ true ↔ Signal s p k
   unfolding signalAt

@@ -15,6 +15,11 @@ pub accepted-not {ℓ} : {A : Type ℓ} (n : ℕ) (a b : A) → (n ≡ 0 → ⊥
 accepted-not zero a b h = absurd (h refl)
 accepted-not (suc n) a b h = refl
 
+-- what holds of both ways holds of either
+pub accepted-both {ℓ} : {A : Type ℓ} (P : A → Type 0) (n : ℕ) {a b : A} → P a → P b → P (accepted n a b)
+accepted-both P zero h k = h
+accepted-both P (suc n) h k = k
+
 -- two values of calls with one number
 pub accepted-single {ℓ} : {A : Type ℓ} (m n : ℕ) (a b x y : A) → m ≡ n → x ≡ accepted m a b → y ≡ accepted n a b → x ≡ y
 accepted-single m n a b x y e p q = p ∙ ap (λ k. accepted k a b) e ∙ sym q

@@ -5,8 +5,8 @@ use mathlib.Core.Bool.{Bool, true, false, cond, _&&_, and-eq-true-iff}
 use mathlib.Core.List.{List, [], _∷_, _++_}
 use mathlib.Core.Option.{Option, none, some, Option·none-ne-some, Option·some-ne-none, Option·some-injective}
 use mathlib.Core.Logic.{inl, inr, _↔_}
-use native.Mathlib.Nat.{add-zero, zero-add, suc-add, add-suc, suc-mul, not-suc-le-zero, le-of-suc-le-suc}
-use native.Mathlib.Nat.{eq-or-lt-of-le}
+use native.Mathlib.Nat.{add-zero, zero-add, suc-add, add-suc, suc-mul, mul-zero, mul-suc, mul-add, not-suc-le-zero}
+use native.Mathlib.Nat.{le-of-suc-le-suc, eq-or-lt-of-le}
 use native.Mathlib.Numerals.{add-one}
 use native.Mathlib.Omega.{arith}
 use lib.ListN.{length, getD, take, set}
@@ -198,6 +198,15 @@ unfolding sum
 sum-none zero f h = refl
 sum-none (suc n) f h = omega (arith, sum-none n f (λ i l. h i (omega arith)), h n (omega arith))
 
+pub sum-zero : (n : ℕ) (f : ℕ → ℕ) → sum n f ≡ 0 → (i : ℕ) → i < n → f i ≡ 0
+unfolding sum
+sum-zero zero f e i h = absurd (not-suc-le-zero h)
+sum-zero (suc n) f e i h =
+    elim (eq-or-lt-of-le (le-of-suc-le-suc h)) [
+      | inl q ↦ rw q (omega arith)
+      | inr l ↦ sum-zero n f (omega arith) i l
+    ]
+
 -- what all pass
 pub all-at : (n : ℕ) (t : ℕ → Bool) → all n t ≡ true → (i : ℕ) → i < n → t i ≡ true
 unfolding all
@@ -226,10 +235,35 @@ all-fails zero t i h e = absurd (not-suc-le-zero h)
 all-fails (suc n) t i h e =
     elim (eq-or-lt-of-le (le-of-suc-le-suc h)) [ inl q ↦ rw (← q, e) (and-false (all i t)) | inr l ↦ rw (all-fails n t i l e) ]
 
--- a sum taken two by two
+-- n values, and m more
+pub sum-split : (n m : ℕ) (f : ℕ → ℕ) → sum (n + m) f ≡ sum n f + sum m (λ i. f (n + i))
+unfolding sum
+sum-split n zero f = rw (add-zero n) (sym (add-zero (sum n f)))
+sum-split n (suc m) f = rw (add-suc n m, sum-split n m f) (omega arith)
+
+-- a sum taken k by k
+pub sum-runs : (k n : ℕ) (f h : ℕ → ℕ) → ((m : ℕ) → f m ≡ sum k (λ j. h (k * m + j))) → sum n f ≡ sum (k * n) h
+unfolding sum
+sum-runs k zero f h w = rw (mul-zero k)
+sum-runs k (suc n) f h w = rw (mul-suc k n, sum-split (k * n) k h, sum-runs k n f h w, w n)
+
 pub sum-pairs : (n : ℕ) (f h : ℕ → ℕ) → ((m : ℕ) → f m ≡ h (2 * m) + h (2 * m + 1)) → sum n f ≡ sum (2 * n) h
 unfolding sum
-sum-pairs zero f h w = refl
-sum-pairs (suc n) f h w =
-    let e : 2 * suc n ≡ 2 * n + 1 + 1 = omega arith in
-    rw e (omega (arith, sum-pairs n f h w, w n, sum-more (2 * n) h, sum-more (2 * n + 1) h))
+sum-pairs n f h w = sum-runs 2 n f h (λ m. w m ∙ rw (add-zero (2 * m)) (omega arith))
+
+-- a sum of which each value is at most k times that of another
+pub sum-within : (k n : ℕ) (f h : ℕ → ℕ) → ((i : ℕ) → f i ≤ k * h i) → sum n f ≤ k * sum n h
+unfolding sum
+sum-within k zero f h w = omega arith
+sum-within k (suc n) f h w = rw (mul-add k (sum n h) (h n)) (omega (arith, sum-within k n f h w, w n))
+
+-- one value raised by one
+pub sum-raised : (n i : ℕ) (f h : ℕ → ℕ) → i < n → h i ≡ f i + 1 → ((j : ℕ) → j < n → (j ≡ i → ⊥) → h j ≡ f j)
+    → sum n h ≡ sum n f + 1
+unfolding sum
+sum-raised zero i f h l e w = absurd (not-suc-le-zero l)
+sum-raised (suc n) i f h l e w =
+    elim (eq-or-lt-of-le (le-of-suc-le-suc l)) [
+      | inl q ↦ rw (← q, e, sum-ext i h f (λ j k. w j (omega arith) (λ z. omega arith))) (omega arith)
+      | inr k ↦ rw (sum-raised n i f h k e (λ j m z. w j (omega arith) z), w n (omega arith) (λ z. omega arith)) (omega arith)
+    ]

@@ -1,18 +1,26 @@
 // Frames, blocks and the payload of an E1 line.
 ghost use mathlib.Core.Path.{_≡_};
-ghost use Prim.Native.Nat.{_+_, _*_, _<_};
+ghost use Prim.Native.Nat.{_+_, _*_, _<_, _≤_};
 ghost use Rattle.line.specs.Bit.{Room, octetBits};
 ghost use Rattle.base.specs.Tab.{tab};
-ghost use Rattle.e1.specs.Frame.{wordAt};
+ghost use Rattle.e1.specs.Frame.{wrongBits, wordAt};
 ghost use Rattle.e1.specs.Block.{blockBit, blockCheck, carried, agrees};
 ghost use Rattle.e1.specs.Payload.{sized};
 
-// the alignment word in bits 2 to 8 of the frame at q
+// the word in the frame at q judged: how many of its seven bits are wrong
+pub fn wrong_bits(s: &[u8], q: usize) -> u32
+    requires { ⌜ Room (now s) q 8 ⌝ }
+    ensures { λ r. ⌜ (r ≡ wrongBits (now (s .entry)) q) × (r ≤ 7) ⌝ }
+{
+    u8::count_ones(line::word(s, q) ^ 27)
+}
+
+// it is the alignment word: no bit of it is wrong
 pub fn is_word(s: &[u8], q: usize) -> bool
     requires { ⌜ Room (now s) q 8 ⌝ }
     ensures { λ r. ⌜ r ≡ wordAt (now (s .entry)) q ⌝ }
 {
-    line::word(s, q) == 27
+    wrong_bits(s, q) == 0
 }
 
 // octet i of the block at q, its check places read as 0

@@ -24,6 +24,7 @@ use Rattle.e1.specs.Frame.{frameAt, slotAt, wordAt, signal, evenSlot0, oddSlot0
 use Rattle.e1.specs.Block.{blockCheck, carried, agrees}
 use Rattle.e1.specs.Payload.{indexOf, frameOf, slotOf}
 use Rattle.e1.proofs.Laws.{index-of, block-check-lt, signal-lt}
+use Rattle.e1.proofs.WordLaws.{word-holds}
 use Rattle.crc.proofs.StripedLaws.{striped-agree}
 use Rattle.write.specs.Entry.{overheadLimit}
 use Rattle.write.specs.Writing.{overheadOf, checkBit, bit1, slot0, octetIn, block, carries, written}
@@ -201,7 +202,8 @@ module _ {p o : List ℕ} {c n : ℕ} (g : Inputs p o c n) where
     word-at =
         let b = checkBit (carries p o c (i / 4)) (2 * i) in
         let d : (128 * b + 27) / 1 % 128 ≡ 27 = omega arith in
-        eq-eqb _ _ (field-of (2 * i) (frameAt 0 (2 * i) + 1) 1 (omega arith) refl 7 0 refl ∙ ap (λ y. y / 1 % 128) even-at ∙ d)
+        word-holds line (frameAt 0 (2 * i)) .1
+        (field-of (2 * i) (frameAt 0 (2 * i) + 1) 1 (omega arith) refl 7 0 refl ∙ ap (λ y. y / 1 % 128) even-at ∙ d)
 
     -- a check bit
     pub check-bit-at : bitAt line (frameAt 0 (2 * i)) ≡ checkBit (carries p o c (i / 4)) (2 * i)

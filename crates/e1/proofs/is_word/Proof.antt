@@ -5,4 +5,4 @@ use Rattle.e1.proofs.is_word.Statement.{statement}
 use Rattle.e1.proofs.is_word.Tie as tie
 
 pub is-word-spec : {M : Type 1} → statement M
-is-word-spec = tie.close (tie.spec (search needs) (λ c. rw (c .word .ensures) refl))
+is-word-spec = tie.close (tie.spec (search needs) (λ c. rw (c .wrong-bits .ensures .0) refl))
