@@ -52,7 +52,7 @@ unfoldable pub readingPlaces : Reading → List ℕ
 readingPlaces r =
     answerOf
     (r .number ∷ r .place ∷ r .start ∷ r .whole ∷ r .used ∷ r .lost
-    ∷ r .words ∷ r .compared ∷ r .errored ∷ r .farend ∷ [])
+    ∷ r .words ∷ r .compared ∷ r .errored ∷ r .farend ∷ r .wordbits ∷ [])
 
 -- number and value to places 0 and 1: a check that was written, or an entry that a host record reads
 unfoldable pub pairPlaces : ℕ → ℕ → List ℕ

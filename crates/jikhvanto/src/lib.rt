@@ -101,6 +101,7 @@ fn give_reading(r: Reading, answer: &mut [u64; 16])
     answer[7] = r.compared as u64;
     answer[8] = r.errored as u64;
     answer[9] = r.farend as u64;
+    answer[10] = r.wordbits as u64;
 }
 
 // number and value to places 0 and 1

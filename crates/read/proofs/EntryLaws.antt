@@ -10,7 +10,7 @@ use native.Mathlib.Omega.{arith}
 use borrow.Author.Tests.{lt-ltb, le-ltb, ltb-true, ltb-false}
 use lib.Dec.{eqb, ltb}
 use lib.ListN.{length}
-use Rattle.base.proofs.AnswerLaws.{accepted-so, accepted-single, Tells, first-tells}
+use Rattle.base.proofs.AnswerLaws.{accepted-so, accepted-both, accepted-single, Tells, first-tells}
 use Rattle.base.specs.Answer.{accepted}
 use Rattle.align.specs.Place.{found, numberOf, placeOf, startOf, Standing, firstStanding}
 use Rattle.align.specs.Stands.{Stands, StandsFirst}
@@ -149,6 +149,12 @@ module _ (s payload slot0 : List ℕ) where
   unfolding reading
   read-accepted r p o h z =
       h .its-answer ∙ accepted-so number (accept s) (refuse number) (sym (read-number r p o h) ∙ z)
+
+  -- what holds of an accepted answer and of every refusal holds of any answer
+  pub read-either : (P : Reading → Type 0) → P (accept s) → ((n : ℕ) → P (refuse n)) → (r : Reading) (p o : List ℕ)
+      → Read s payload slot0 r p o → P r
+  unfolding reading
+  read-either P a f r p o h = subst P (sym (h .its-answer)) (accepted-both P number a (f number))
 
   -- two results that the contract admits are equal
   pub read-single : (r r' : Reading) (p p' o o' : List ℕ) → Read s payload slot0 r p o → Read s payload slot0 r' p' o'

@@ -7,14 +7,15 @@ use mathlib.Core.Logic.{_↔_}
 use mathlib.Core.Option.{Option, none, some}
 use mathlib.Mathlib.Data.Bool.Basic.{eq-false-of-not-eq-true}
 use native.Mathlib.Omega.{arith}
-use borrow.Author.Tests.{leb-true, le-leb, eqb-false, ne-eqb, not-true}
+use borrow.Author.Tests.{leb-true, le-leb, not-true}
 use lib.Dec.{leb}
 use lib.ListN.{length, getD}
 use Rattle.line.specs.Bit.{field, octetAt}
 use Rattle.base.proofs.TabLaws.{length-tab, getD-tab, least-some, least-none, none-least}
-use Rattle.e1.specs.Frame.{frameAt, slotAt, wordAt}
+use Rattle.e1.specs.Frame.{frameAt, slotAt}
 use Rattle.e1.specs.Payload.{indexOf, frameOf, slotOf}
 use Rattle.e1.proofs.Laws.{frame-of-index, slot-of-index}
+use Rattle.e1.proofs.WordLaws.{word-holds}
 use Rattle.base.proofs.ChoiceLaws.{denies}
 use Rattle.read.specs.Loss.{ThreeWrong, Loss}
 use Rattle.read.specs.Reading.{whole, wrong, threeWrong, loss, lostAt, usedOf, slots, slots0, payloadOf, slot0Of}
@@ -53,7 +54,8 @@ slot0-length s q g = slots0-length s q (16 * g)
 pub wrong-word : (s : List ℕ) (q i : ℕ) → wrong s q i ≡ true ↔ (field s (frameAt q (2 * i) + 1) 7 ≡ 27 → ⊥)
 unfolding wrong
 wrong-word s q i =
-    (λ e. eqb-false _ _ (not-true (wordAt s (frameAt q (2 * i))) e), λ h. ap not (ne-eqb (field s (frameAt q (2 * i) + 1) 7) 27 h))
+    let w = word-holds s (frameAt q (2 * i)) in
+    (λ e. denies w (not-true _ e), λ h. ap not (eq-false-of-not-eq-true (λ t. h (w .0 t))))
 
 module _ (s : List ℕ) (q : ℕ) where
   pub three-holds : (i : ℕ) → threeWrong s q i ≡ true ↔ ThreeWrong s q i

@@ -8,8 +8,8 @@ use lib.ListN.{length, drop}
 use Rattle.line.specs.Bit.{Room}
 use Rattle.align.specs.Place.{firstStanding}
 use Rattle.align.proofs.Laws.{first-within}
-use Rattle.read.specs.Reading.{whole, loss, lostAt, usedOf, payloadOf, slot0Of, wordErrors, compared, errored}
-use Rattle.read.specs.Reading.{farEnd}
+use Rattle.read.specs.Reading.{whole, loss, lostAt, usedOf, payloadOf, slot0Of, wordErrors, wordBits, compared}
+use Rattle.read.specs.Reading.{errored, farEnd}
 use Rattle.read.specs.Entry.{reading, accept, refuse, startIn, wholeIn, usedIn, refusal, Read, GoodLength}
 use Rattle.read.proofs.Laws.{used-le, whole-fits}
 use Rattle.read.specs.declared.Reading.{Reading}
@@ -54,11 +54,12 @@ module _ (s : List ℕ) (good : GoodLength s) (p k : ℕ) (e : firstStanding s �
         → r .compared ≡ compared g
         → r .errored ≡ errored s q g
         → r .farend ≡ farEnd s q g
+        → r .wordbits ≡ wordBits s q g
         → payload' ≡ payloadOf s q g ++ drop (496 * g) payload
         → slot0' ≡ slot0Of s q g ++ drop (16 * g) slot0
         → Read s payload slot0 r payload' slot0'
     unfolding reading accept
-    answered payload slot0 payload' slot0' r n h₀ h₁ h₂ h₃ h₄ h₅ h₆ h₇ h₈ h₉ ep eo =
+    answered payload slot0 payload' slot0' r n h₀ h₁ h₂ h₃ h₄ h₅ h₆ h₇ h₈ h₉ h₁₀ ep eo =
         let d = measured in
         let z = refusal s (length payload) (length slot0) in
         let its : r ≡ accept s = λ i.
@@ -73,6 +74,7 @@ module _ (s : List ℕ) (good : GoodLength s) (p k : ℕ) (e : firstStanding s �
           compared = (h₇ ∙ ap compared (d .upto)) i;
           errored = (h₈ ∙ ap₂ (errored s) (d .at) (d .upto)) i;
           farend = (h₉ ∙ ap₂ (farEnd s) (d .at) (d .upto)) i;
+          wordbits = (h₁₀ ∙ ap₂ (wordBits s) (d .at) (d .upto)) i;
         } in
         let wholly = payloadOf s (startIn s) (usedIn s) ++ drop (496 * usedIn s) payload in
         let slots = slot0Of s (startIn s) (usedIn s) ++ drop (16 * usedIn s) slot0 in

@@ -1,33 +1,59 @@
 -- The words of the even frames, as one pass judges them.
 use Prim.Native.Nat.{ℕ, _+_, _-_, _*_, _/_, _%_, _≤_, _<_}
 use mathlib.Core.Path.{_≡_, refl, sym, ap, ap₂, _∙_}
-use mathlib.Core.Bool.{Bool, true, false, _&&_}
+use mathlib.Core.Bool.{Bool, true, false, _&&_, not}
 use mathlib.Core.List.{List}
 use mathlib.Core.Option.{none, some}
 use native.Mathlib.Numerals.{add-one}
 use native.Mathlib.Omega.{arith}
 use borrow.Author.Tests.{leb-true, le-leb}
-use lib.Dec.{leb, leb·suc-suc}
+use lib.Dec.{eqb, leb, leb·suc-suc}
 use Rattle.base.specs.Tab.{sum, count, first, least}
-use Rattle.base.proofs.TabLaws.{count-yes, count-no, count-le, least-more, least-less, some-least}
-use Rattle.read.specs.Reading.{wrong, threeWrong, loss, wordErrors}
+use Rattle.base.proofs.TabLaws.{sum-more, sum-le, count-yes, count-no, count-le, least-more, least-less, some-least}
+use Rattle.e1.specs.Frame.{frameAt}
+use Rattle.e1.proofs.WordLaws.{wrong-most}
+use Rattle.read.specs.Reading.{wrongBitsOf, wrong, threeWrong, loss, wordErrors, wordBits}
 
 -- the word k even frames before that of frame 2i is there, and wrong
 abbrev pub wrongBefore : List ℕ → ℕ → ℕ → ℕ → Bool
 wrongBefore s q k i = leb k i && wrong s q (i - k)
 
 -- what is remembered before the word of frame 2i
-pub record Passed (s : List ℕ) (q i : ℕ) (earlier last : Bool) (n words : ℕ) : Type 0 where
+pub record Passed (s : List ℕ) (q i : ℕ) (earlier last : Bool) (n bits words wordbits : ℕ) : Type 0 where
   pub its-earlier : earlier ≡ wrongBefore s q 2 i
   pub its-last : last ≡ wrongBefore s q 1 i
   pub its-count : n ≡ count i (wrong s q)
+  pub its-bits : bits ≡ sum i (wrongBitsOf s q)
   pub its-words : words ≡ wordErrors s q (i / 8)
+  pub its-wordbits : wordbits ≡ wordBits s q (i / 8)
   pub no-loss : least i (threeWrong s q) ≡ none
 
+-- what is summed over the words of whole multiframes: where one more is whole, and where none is
+module _ (f : ℕ → ℕ) (i n : ℕ) where
+  pub whole-more : i % 8 ≡ 7 → n ≡ sum (i + 1) f → n ≡ sum (8 * ((i + 1) / 8)) f
+  whole-more h e = let d : i + 1 ≡ 8 * ((i + 1) / 8) = omega arith in e ∙ ap (λ x. sum x f) d
+
+  pub whole-kept : (i % 8 ≡ 7 → ⊥) → n ≡ sum (8 * (i / 8)) f → n ≡ sum (8 * ((i + 1) / 8)) f
+  whole-kept h e = let d : i / 8 ≡ (i + 1) / 8 = omega arith in e ∙ ap (λ x. sum (8 * x) f) d
+
 module _ (s : List ℕ) (q : ℕ) where
-  pub none-passed : Passed s q 0 false false 0 0
-  unfolding wordErrors first sum
-  none-passed = record { its-earlier = refl; its-last = refl; its-count = refl; its-words = refl; no-loss = refl }
+  pub none-passed : Passed s q 0 false false 0 0 0 0
+  unfolding wordErrors wordBits first sum
+  none-passed =
+      record {
+        its-earlier = refl;
+        its-last = refl;
+        its-count = refl;
+        its-bits = refl;
+        its-words = refl;
+        its-wordbits = refl;
+        no-loss = refl;
+      }
+
+  -- a word is wrong where its judged bits are not 0
+  pub judged : (i w : ℕ) → w ≡ wrongBitsOf s q i → not (eqb w 0) ≡ wrong s q i
+  unfolding wrong
+  judged i w e = ap (λ x. not (eqb x 0)) e
 
   three-wrong : (i : ℕ) → wrongBefore s q 2 i && (wrongBefore s q 1 i && wrong s q i) ≡ threeWrong s q i
   unfolding threeWrong
@@ -46,17 +72,17 @@ module _ (s : List ℕ) (q : ℕ) where
       let e : i - 1 ≡ i + 1 - 2 = omega arith in
       ap₂ (λ b x. b && wrong s q x) (sym (ap (leb 2) (add-one i) ∙ leb·suc-suc 1 i)) e
 
-  -- where a multiframe is whole its words count
-  pub words-more : (i n : ℕ) → i % 8 ≡ 7 → n ≡ count (i + 1) (wrong s q) → n ≡ wordErrors s q ((i + 1) / 8)
-  unfolding wordErrors
-  words-more i n h e = let d : i + 1 ≡ 8 * ((i + 1) / 8) = omega arith in e ∙ ap (λ x. count x (wrong s q)) d
-
-module _ {s : List ℕ} {q i : ℕ} {earlier last : Bool} {n words : ℕ} (p : Passed s q i earlier last n words) where
+module _ {s : List ℕ} {q i : ℕ} {earlier last : Bool} {n bits words wordbits : ℕ}
+    (p : Passed s q i earlier last n bits words wordbits) where
   pub count-below : n ≤ i
   count-below = omega (arith, count-le i (wrong s q), p .its-count)
 
-  pub words-kept : (i % 8 ≡ 7 → ⊥) → words ≡ wordErrors s q ((i + 1) / 8)
-  words-kept h = let e : i / 8 ≡ (i + 1) / 8 = omega arith in p .its-words ∙ ap (wordErrors s q) e
+  pub bits-below : bits ≤ 7 * i
+  bits-below =
+      omega (arith, sum-le i 7 (wrongBitsOf s q) (λ j l. wrong-most s (frameAt q (2 * j))), p .its-bits)
+
+  pub bits-more : {w : ℕ} → w ≡ wrongBitsOf s q i → bits + w ≡ sum (i + 1) (wrongBitsOf s q)
+  bits-more e = ap₂ _+_ (p .its-bits) e ∙ sym (sum-more i (wrongBitsOf s q))
 
   pub never-lost : (m : ℕ) → 8 * m ≤ i → loss s q m ≡ none
   unfolding loss
@@ -77,14 +103,19 @@ module _ {s : List ℕ} {q i : ℕ} {earlier last : Bool} {n words : ℕ} (p : P
     pub count-right : this ≡ false → n ≡ count (i + 1) (wrong s q)
     count-right e = p .its-count ∙ sym (count-no i (wrong s q) (sym t ∙ e))
 
-    pub word-more : earlier && (last && this) ≡ false → {n' words' : ℕ} → n' ≡ count (i + 1) (wrong s q)
+    pub word-more : earlier && (last && this) ≡ false → {n' bits' words' wordbits' : ℕ}
+        → n' ≡ count (i + 1) (wrong s q)
+        → bits' ≡ sum (i + 1) (wrongBitsOf s q)
         → words' ≡ wordErrors s q ((i + 1) / 8)
-        → Passed s q (i + 1) last this n' words'
-    word-more f k w =
+        → wordbits' ≡ wordBits s q ((i + 1) / 8)
+        → Passed s q (i + 1) last this n' bits' words' wordbits'
+    word-more f k b w v =
         record {
           its-earlier = p .its-last ∙ earlier-more s q i;
           its-last = t ∙ last-more s q i;
           its-count = k;
+          its-bits = b;
           its-words = w;
+          its-wordbits = v;
           no-loss = least-more i (threeWrong s q) (p .no-loss) (sym loss-test ∙ f);
         }

@@ -9,8 +9,8 @@ use lib.ListN.{length, drop}
 use Rattle.align.specs.Place.{firstStanding, found, numberOf, placeOf, startOf}
 use Rattle.align.specs.declared.Found.{Found}
 use Rattle.base.specs.Answer.{accepted, Refusal, _when_, firstOf}
-use Rattle.read.specs.Reading.{whole, loss, lostAt, usedOf, payloadOf, slot0Of, wordErrors, compared, errored}
-use Rattle.read.specs.Reading.{farEnd}
+use Rattle.read.specs.Reading.{whole, loss, lostAt, usedOf, payloadOf, slot0Of, wordErrors, wordBits, compared}
+use Rattle.read.specs.Reading.{errored, farEnd}
 use Rattle.read.specs.declared.Reading.{Reading}
 
 -- 2,048 to 8,192 octets
@@ -63,6 +63,7 @@ accept s =
       compared = compared (usedIn s);
       errored = errored s (startIn s) (usedIn s);
       farend = farEnd s (startIn s) (usedIn s);
+      wordbits = wordBits s (startIn s) (usedIn s);
     }
 
 -- a refusal: zeros beside the number
@@ -79,6 +80,7 @@ refuse n =
       compared = 0;
       errored = 0;
       farend = 0;
+      wordbits = 0;
     }
 
 unfoldable pub reading : List ℕ → ℕ → ℕ → Reading

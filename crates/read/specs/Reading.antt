@@ -4,12 +4,12 @@ use Prim.Native.Nat.{ℕ, _+_, _-_, _*_, _/_}
 use mathlib.Core.Bool.{Bool, _&&_, not}
 use mathlib.Core.List.{List}
 use mathlib.Core.Option.{Option, none, some}
-use lib.Dec.{leb, ltb}
+use lib.Dec.{eqb, leb, ltb}
 use lib.ListN.{length}
 use Rattle.line.specs.Bit.{bitAt, octetAt}
 use Rattle.base.specs.Choice.{if_then_else_}
 use Rattle.base.specs.Tab.{tab, sum, count, least}
-use Rattle.e1.specs.Frame.{frameAt, slotAt, wordAt}
+use Rattle.e1.specs.Frame.{frameAt, slotAt, wrongBits}
 use Rattle.e1.specs.Block.{agrees}
 use Rattle.e1.specs.Payload.{frameOf, slotOf}
 
@@ -17,9 +17,13 @@ use Rattle.e1.specs.Payload.{frameOf, slotOf}
 unfoldable pub whole : List ℕ → ℕ → ℕ
 whole s q = (8 * length s - q) / 4096
 
--- the word of the even frame 2i is wrong
+-- the wrong bits of the word of the even frame 2i
+abbrev pub wrongBitsOf : List ℕ → ℕ → ℕ → ℕ
+wrongBitsOf s q i = wrongBits s (frameAt q (2 * i))
+
+-- that word is wrong
 unfoldable pub wrong : List ℕ → ℕ → ℕ → Bool
-wrong s q i = not (wordAt s (frameAt q (2 * i)))
+wrong s q i = not (eqb (wrongBitsOf s q i) 0)
 
 -- the words of f - 4, f - 2 and f are all wrong, f = 2i at least 4
 unfoldable pub threeWrong : List ℕ → ℕ → ℕ → Bool
@@ -57,6 +61,10 @@ slot0Of s q g = slots0 s q (16 * g)
 -- wrong alignment words among the 8g
 unfoldable pub wordErrors : List ℕ → ℕ → ℕ → ℕ
 wordErrors s q g = count (8 * g) (wrong s q)
+
+-- the wrong bits of the 8g words in all
+unfoldable pub wordBits : List ℕ → ℕ → ℕ → ℕ
+wordBits s q g = sum (8 * g) (wrongBitsOf s q)
 
 -- blocks compared: 2g - 1, or 0 where g is 0
 abbrev pub compared : ℕ → ℕ

@@ -7,7 +7,7 @@ ghost use lib.ListN.{length, drop};
 ghost use Rattle.line.specs.Bit.{Room, octetAt};
 ghost use Rattle.base.specs.Tab.{tab};
 ghost use Rattle.align.specs.Place.{firstStanding};
-ghost use Rattle.read.specs.Reading.{wrong, loss, lostAt, usedOf, slots, payloadOf, slot0Of, wordErrors};
+ghost use Rattle.read.specs.Reading.{loss, lostAt, usedOf, slots, payloadOf, slot0Of, wordErrors, wordBits};
 ghost use Rattle.read.specs.Reading.{compared, errored, zerosE, farEnd};
 ghost use Rattle.read.specs.Entry.{Read, GoodLength, refuse};
 
@@ -23,6 +23,7 @@ pub struct Reading {
     pub compared: usize,
     pub errored: usize,
     pub farend: usize,
+    pub wordbits: usize,
 }
 
 // What the alignment words tell.
@@ -30,6 +31,7 @@ struct Tracked {
     lost: usize,
     used: usize,
     words: usize,
+    wordbits: usize,
 }
 
 // What the checks and the E bits tell.
@@ -39,39 +41,39 @@ struct Judged {
     farend: usize,
 }
 
-// the word of the even frame 2i is wrong
-fn is_wrong(s: &[u8], q: usize, i: usize) -> bool
-    requires { ⌜ Room (now s) q (512 * i + 8) ⌝ }
-    ensures { λ r. ⌜ r ≡ wrong (now (s .entry)) q i ⌝ }
-{
-    !e1::is_word(s, q + 256 * (2 * i))
-}
-
-// the loss in m multiframes, those used, and their wrong words; each word is judged once
+// the loss in m multiframes, those used, and their wrong words and bits; each word is judged once, and counts where its
+// multiframe is whole
 fn track(s: &[u8], q: usize, m: usize) -> Tracked
     requires { ⌜ Room (now s) q (4096 * m) ⌝ }
     ensures { λ r. ⌜ (r .lost ≡ lostAt (loss (now (s .entry)) q m))
         × (r .used ≡ usedOf (loss (now (s .entry)) q m) m)
-        × (r .words ≡ wordErrors (now (s .entry)) q (r .used)) ⌝ }
+        × (r .words ≡ wordErrors (now (s .entry)) q (r .used))
+        × (r .wordbits ≡ wordBits (now (s .entry)) q (r .used)) ⌝ }
 {
     let mut earlier = false;
     let mut last = false;
     let mut n: usize = 0;
+    let mut bits: usize = 0;
     let mut words: usize = 0;
+    let mut wordbits: usize = 0;
     for i in 0..8 * m {
-        let this = is_wrong(s, q, i);
+        let wrong = e1::wrong_bits(s, q + 256 * (2 * i));
+        let this = wrong != 0;
         if earlier & (last & this) {
             return Tracked {
                 lost: 2 * i,
                 used: i / 8,
                 words: words,
+                wordbits: wordbits,
             };
         }
         if this {
             n += 1;
         }
+        bits += wrong as usize;
         if i % 8 == 7 {
             words = n;
+            wordbits = bits;
         }
         earlier = last;
         last = this;
@@ -80,6 +82,7 @@ fn track(s: &[u8], q: usize, m: usize) -> Tracked
         lost: 0,
         used: m,
         words: words,
+        wordbits: wordbits,
     }
 }
 
@@ -210,6 +213,7 @@ fn refused(number: u64) -> Reading
         compared: 0,
         errored: 0,
         farend: 0,
+        wordbits: 0,
     }
 }
 
@@ -240,6 +244,7 @@ fn read_from(image: &[u8], place: usize, k: usize, payload: &mut [u8], slot0: &m
         compared: judged.compared,
         errored: judged.errored,
         farend: judged.farend,
+        wordbits: tracked.wordbits,
     }
 }
 

@@ -20,4 +20,5 @@ give-reading-spec =
     (search needs)
     (search needs)
     (search needs)
+    (search needs)
     (λ c. refl))

@@ -71,6 +71,7 @@ returns-2 c =
     (c .judge .ensures .0)
     (c .judge .ensures .1)
     (c .judge .ensures .2)
+    (t .track .ensures .3)
     (y .payload-of .ensures)
     (z .slot0-of .ensures)
 
