@@ -1,6 +1,6 @@
 -- The proof of Counts.
 use Prim.Native.Nat.{ℕ, zero, suc, _+_, _-_, _*_, _/_, _%_, _≤_, _<_}
-use mathlib.Core.Path.{_≡_, refl, sym, ap, _∙_}
+use mathlib.Core.Path.{_≡_, refl, sym, ap, ap₂, _∙_}
 use mathlib.Core.Bool.{Bool, true, false, cond, _&&_, not, and-eq-true-iff, true≢false}
 use mathlib.Core.List.{List}
 use mathlib.Core.Logic.{_↔_, _≢_}
@@ -17,10 +17,13 @@ use Rattle.line.proofs.BitLaws.{bit-lt}
 use Rattle.crc.proofs.Laws.{same}
 use Rattle.e1.specs.Frame.{frameAt}
 use Rattle.e1.specs.Block.{agrees}
-use Rattle.read.specs.Entry.{accept, startIn, usedIn}
-use Rattle.read.specs.Reading.{wrong, wordErrors, compared, agreesIn, errored, zerosE, farEnd}
-use Rattle.read.proofs.EntryLaws.{read-accepted}
-use Rattle.claims.specs.Counts.{Counted, Agrees, WrongWord, FarError, Counts}
+use Rattle.read.specs.Entry.{accept, startIn, usedIn, Read}
+use Rattle.read.specs.Reading.{wrong, wordErrors, wordBits, compared, agreesIn, errored, zerosE, farEnd}
+use Rattle.read.specs.declared.Reading.{Reading}
+use Rattle.read.proofs.Laws.{wrong-word}
+use Rattle.read.proofs.EntryLaws.{read-accepted, read-either}
+use Rattle.claims.specs.Counts.{Counted, Agrees, WrongWord, WrongBit, FarError, Counts}
+use Rattle.claims.proofs.WordBits.{wrongIn, bits-counted, bits-least, bits-most, one-more-bit}
 
 -- What is counted
 
@@ -114,8 +117,13 @@ is-zero (suc (suc x)) h = absurd (omega arith)
 
 module _ (s : List ℕ) (q g : ℕ) where
   wrong-words : Counted (8 * g) (wordErrors s q g) (WrongWord s q)
-  unfolding wordErrors wrong
-  wrong-words = named (counted (8 * g) (wrong s q)) (λ i. not-equal _ 27)
+  unfolding wordErrors
+  wrong-words = named (counted (8 * g) (wrong s q)) (wrong-word s q)
+
+  wrong-bits : Counted (7 * (8 * g)) (wordBits s q g) (λ b. WrongBit s q (b / 7) (b % 7))
+  wrong-bits =
+      rw (bits-counted s q g)
+      (named (counted (7 * (8 * g)) (λ b. wrongIn s q (b / 7) (b % 7))) (λ b. not-equal _ _))
 
   differing : Counted (compared g) (errored s q g) (λ b. Agrees s q b → ⊥)
   unfolding errored agrees
@@ -177,11 +185,39 @@ module _ (s : List ℕ) (q g : ℕ) where
   far-errors : Counted (2 * g) (farEnd s q g) (FarError s q g)
   far-errors = rw far-counted (named (counted (2 * g) farError) far-error)
 
+-- the words and their bits, of any answer
+module _ (s payload slot0 : List ℕ) where
+  least-bits : (r : Reading) (p o : List ℕ) → Read s payload slot0 r p o → r .words ≤ r .wordbits
+  unfolding accept
+  least-bits =
+      read-either s payload slot0 (λ r. r .words ≤ r .wordbits) (bits-least s (startIn s) (usedIn s)) (λ n. omega arith)
+
+  most-bits : (r : Reading) (p o : List ℕ) → Read s payload slot0 r p o → r .wordbits ≤ 7 * r .words
+  unfolding accept
+  most-bits =
+      read-either s payload slot0 (λ r. r .wordbits ≤ 7 * r .words) (bits-most s (startIn s) (usedIn s)) (λ n. omega arith)
+
+bits-of : (s payload slot0 : List ℕ) (r : Reading) (p o : List ℕ) → Read s payload slot0 r p o → r .number ≡ 0
+    → r .wordbits ≡ wordBits s (r .start) (r .used)
+unfolding accept
+bits-of s a b r p o h z = rw (read-accepted s a b r p o h z) refl
+
 pub counts : Counts
 unfolding accept
 counts =
     record {
       words = λ s a b r p o h z. rw (read-accepted s a b r p o h z) (wrong-words s (startIn s) (usedIn s));
+      wrong-word = wrong-word;
+      wordbits = λ s a b r p o h z. rw (read-accepted s a b r p o h z) (wrong-bits s (startIn s) (usedIn s));
+      least-bits = least-bits;
+      most-bits = most-bits;
+      no-bits = λ s a b r p o h.
+          let l = least-bits s a b r p o h in
+          let m = most-bits s a b r p o h in
+          (λ e. omega arith, λ e. omega arith);
+      one-hit = λ s a b r p o h z t a' b' r' p' o' h' z' same-start same-used i j l hit.
+          bits-of t a' b' r' p' o' h' z' ∙ ap₂ (wordBits t) same-start same-used
+          ∙ one-more-bit hit (r .used) l ∙ ap (λ x. x + 1) (sym (bits-of s a b r p o h z));
       errored = λ s a b r p o h z. rw (read-accepted s a b r p o h z) (differing s (startIn s) (usedIn s));
       farend = λ s a b r p o h z. rw (read-accepted s a b r p o h z) (far-errors s (startIn s) (usedIn s));
       none-errored = λ s a b r p o h z. rw (read-accepted s a b r p o h z) (none-differs s (startIn s) (usedIn s));

@@ -6,7 +6,7 @@ use mathlib.Core.List.{List, _++_}
 use mathlib.Core.Logic.{_↔_, Iff·trans}
 use mathlib.Core.Option.{none}
 use native.Mathlib.Omega.{arith}
-use borrow.Author.Tests.{eqb-true, le-ltb}
+use borrow.Author.Tests.{le-ltb}
 use lib.Dec.{ltb}
 use lib.ListN.{length, getD, take, drop, List·getD-append}
 use lib.Seq.{take-at}
@@ -14,10 +14,11 @@ use Rattle.line.specs.Bit.{bitAt, octetAt}
 use Rattle.base.proofs.TabLaws.{tab-agree, sum-ext}
 use Rattle.base.proofs.AnswerLaws.{accepted-so}
 use Rattle.e1.specs.Frame.{frameAt, slotAt, signal}
+use Rattle.e1.proofs.WordLaws.{word-holds}
 use Rattle.e1.specs.Payload.{indexOf, multiframes}
 use Rattle.align.specs.Stands.{Stands}
-use Rattle.read.specs.Reading.{whole, loss, lostAt, usedOf, slots, payloadOf, slot0Of, wordErrors, compared, errored}
-use Rattle.read.specs.Reading.{zerosE, farEnd}
+use Rattle.read.specs.Reading.{whole, loss, lostAt, usedOf, slots, payloadOf, slot0Of, wordErrors, wordBits, compared}
+use Rattle.read.specs.Reading.{errored, zerosE, farEnd}
 use Rattle.read.specs.Entry as reading
 use Rattle.read.specs.Entry.{Read, GoodLength}
 use Rattle.read.proofs.Laws as reads
@@ -91,6 +92,7 @@ module _ (s payload slot0 : List ℕ) (r : Reading) (payload' slot0' : List ℕ)
         lost = got (λ x. x .lost) ∙ sym (ap₂ (λ x y. lostAt (loss s x y)) from all);
         used = upto ∙ sym (ap₂ (λ x y. usedOf (loss s x y) y) from all);
         words = got (λ x. x .words) ∙ sym (ap₂ (wordErrors s) from upto);
+        word-bits = got (λ x. x .wordbits) ∙ sym (ap₂ (wordBits s) from upto);
         compares = got (λ x. x .compared) ∙ sym (ap compared upto);
         errors = got (λ x. x .errored) ∙ sym (ap₂ (errored s) from upto);
         far-end = got (λ x. x .farend) ∙ sym (ap₂ (farEnd s) from upto);
@@ -126,7 +128,7 @@ module _ (p o : List ℕ) (c n : ℕ) (g : Inputs p o c n) where
         record {
           long = long;
           payload = λ f j l a b. writes.payload-at g f j l a b (octets (indexOf f j));
-          word = λ i l. eqb-true _ _ (writes.word-at g i l);
+          word = λ i l. word-holds line (frameAt 0 (2 * i)) .0 (writes.word-at g i l);
           first-check = writes.carried-at g 0 (omega arith);
           check = λ b l.
               let e : b + 1 ≡ suc b = omega arith in
@@ -201,6 +203,7 @@ module _ (p o : List ℕ) (c n : ℕ) (g : Inputs p o c n) where
               used = all-n;
               lost = value (λ x. x .lost) ∙ ap lostAt no-loss;
               words = a .words ∙ ap₂ (wordErrors line) at-0 all-n ∙ unbroken.no-word-errors line n framed;
+              wordbits = a .word-bits ∙ ap₂ (wordBits line) at-0 all-n ∙ unbroken.no-word-bits line n framed;
               compared = a .compares ∙ ap compared all-n;
               errored = a .errors ∙ ap₂ (errored line) at-0 all-n ∙ unbroken.none-errored line n framed;
               farend = a .far-end ∙ ap₂ (farEnd line) at-0 all-n ∙ unbroken.far-end-all line n framed ∙ sum-ext (n - 1) (zerosE line 0) (zeroEs o) e-bits;

@@ -6,7 +6,7 @@ use mathlib.Core.List.{List}
 use mathlib.Core.Option.{Option, none, some}
 use native.Mathlib.Nat.{zero-add, add-zero}
 use native.Mathlib.Omega.{arith}
-use borrow.Author.Tests.{eq-eqb, le-leb, lt-ltb, le-ltb}
+use borrow.Author.Tests.{eqb-true, eq-eqb, le-leb, lt-ltb, le-ltb}
 use lib.Dec.{eqb, leb, ltb, lit<}
 use lib.ListN.{length, getD}
 use Rattle.line.specs.Bit.{bitAt}
@@ -15,7 +15,8 @@ use Rattle.base.proofs.TabLaws.{some-first, some-least, none-least, at-all, sum
 use Rattle.e1.specs.Frame.{frameAt, wordAt, signal}
 use Rattle.e1.specs.Block.{agrees}
 use Rattle.align.specs.Place.{basic, mark, signalAt, pairAt, withPlace, standing, firstStanding}
-use Rattle.read.specs.Reading.{whole, wrong, threeWrong, loss, wordErrors, compared, agreesIn, errored, zerosE, farEnd}
+use Rattle.read.specs.Reading.{whole, wrongBitsOf, wrong, threeWrong, loss, wordErrors, wordBits, compared, agreesIn}
+use Rattle.read.specs.Reading.{errored, zerosE, farEnd}
 
 -- a line of n multiframes, its first bit that of a frame 0
 pub record Framed (s : List ℕ) (n : ℕ) : Type 0 where
@@ -92,6 +93,10 @@ module _ (s : List ℕ) (n : ℕ) (h : Framed s n) where
   pub no-word-errors : wordErrors s 0 n ≡ 0
   unfolding wordErrors
   no-word-errors = sum-none (8 * n) (λ i. cond (wrong s 0 i) 1 0) (λ i l. ap (λ b. cond b 1 0) (never-wrong i l))
+
+  pub no-word-bits : wordBits s 0 n ≡ 0
+  unfolding wordBits
+  no-word-bits = sum-none (8 * n) (wrongBitsOf s 0) (λ i l. eqb-true _ _ (h .word i l))
 
   each-clean : (b : ℕ) → b < compared n → agreesIn s 0 b ≡ true
   each-clean b l = ap (agrees s) (zero-add (2048 * b)) ∙ h .agree b (omega arith)

@@ -1,6 +1,7 @@
 pub mod Framed
 pub mod Standard
 pub mod Seam
+pub mod WordBits
 pub mod Counts
 pub mod Demand1
 pub mod Demand2

@@ -15,7 +15,7 @@ use Rattle.e1.specs.Payload.{indexOf, multiframes}
 use Rattle.align.specs.Place.{startOf}
 use Rattle.align.specs.Stands.{Basic, Pair, Stands, StandsFirst}
 use Rattle.align.specs.declared.Found.the-variants.{At, Nothing}
-use Rattle.read.specs.Reading.{whole, loss, lostAt, usedOf, wordErrors, compared, errored, farEnd}
+use Rattle.read.specs.Reading.{whole, loss, lostAt, usedOf, wordErrors, wordBits, compared, errored, farEnd}
 use Rattle.read.specs.Loss.{Loss}
 use Rattle.read.specs.Entry.{Read, GoodLength, foundIn}
 use Rattle.read.specs.declared.Reading.{Reading}
@@ -35,6 +35,7 @@ pub record Accepted (s payload slot0 : List ℕ) (r : Reading) (payload' slot0' 
   pub lost : r .lost ≡ lostAt (loss s (r .start) (r .whole))
   pub used : r .used ≡ usedOf (loss s (r .start) (r .whole)) (r .whole)
   pub words : r .words ≡ wordErrors s (r .start) (r .used)
+  pub word-bits : r .wordbits ≡ wordBits s (r .start) (r .used)
   pub compares : r .compared ≡ compared (r .used)
   pub errors : r .errored ≡ errored s (r .start) (r .used)
   pub far-end : r .farend ≡ farEnd s (r .start) (r .used)
@@ -73,6 +74,7 @@ pub record ReadBack (p o : List ℕ) (n : ℕ) (r : Reading) (payload' slot0' : 
   pub used : r .used ≡ n
   pub lost : r .lost ≡ 0
   pub words : r .words ≡ 0
+  pub wordbits : r .wordbits ≡ 0
   pub compared : r .compared ≡ 2 * n - 1
   pub errored : r .errored ≡ 0
   pub farend : r .farend ≡ sum (n - 1) (zeroEs o)
