@@ -33,8 +33,8 @@ const MAP: usize = 18;
 const BEFORE: u8 = 170;
 
 // the names of what a read answers
-const NAMES: [u8; 76] =
-    *b" place \n start \n whole \n used \n lost \n words \n compared \n errored \n farend \n";
+const NAMES: [u8; 87] =
+    *b" place \n start \n whole \n used \n lost \n words \n compared \n errored \n farend \n wordbits \n";
 
 // what a read answers, and the digests of its outputs
 fn show_read(label: &[u8], r: read::Reading, payload: &[u8], slot0: &[u8]) {
@@ -48,10 +48,11 @@ fn show_read(label: &[u8], r: read::Reading, payload: &[u8], slot0: &[u8]) {
         r.compared,
         r.errored,
         r.farend,
+        r.wordbits,
     ];
     print(label);
     print_number(b": ", r.number);
-    for i in 0..9 {
+    for i in 0..10 {
         write_line(STDOUT_FILENO, &NAMES, i as u64);
         print_number(b"", counts[i] as u64);
     }

@@ -16,14 +16,25 @@ fn bits(slot0: &[u8; 256], f: usize) -> [usize; 8]
     bits
 }
 
-// an even frame: the check bit and the alignment word, with a cross where it is wrong
-fn even(pen: Pen, bits: &[usize], is_word: bool) -> Pen {
-    pen.fill(b"<g class='right%'>", &[is_word as usize]).fill(
-        b"<g class='cell bits check'><rect width='24' height='24'/><text x='12' y='16'>%</text></g>\
+// the middle of a word's seven bits: that of their cell, or to the right of it where a cross comes before them
+fn middle_of_word(wrong: usize) -> usize {
+    if wrong == 0 {
+        return 60;
+    }
+    69
+}
+
+// an even frame: the check bit and the alignment word, where it is wrong with a cross and the number of its wrong bits
+fn even(pen: Pen, bits: &[usize], wrong: usize) -> Pen
+    requires { ⌜ length (now bits) ≡ 8 ⌝ }
+{
+    let pen = pen.fill(
+        b"<g class='right%'><g class='cell bits check'><rect width='24' height='24'/><text x='12' y='16'>%</text></g>\
 <g class='cell bits word'><rect x='24' width='72' height='24'/>\
-<text x='60' y='16'><tspan class='cross'>&#215;</tspan>%%%%%%%</text></g></g>",
-        bits,
-    )
+<text class='cross' x='33' y='16'>&#215;<tspan class='many'>%</tspan></text><text x='%' y='16'>",
+        &[(wrong == 0) as usize, bits[0], wrong, middle_of_word(wrong)],
+    );
+    pen.fill(b"%%%%%%%</text></g></g>", &bits[1..])
 }
 
 // bit 1 of an odd frame below 12 of its multiframe: the signal 001011, with a cross where it is wrong
@@ -76,7 +87,8 @@ pub fn frame(pen: Pen, slot0: &[u8; 256], f: usize, counts: bool) -> Pen
     );
     let bits = bits(slot0, f);
     if n % 2 == 0 {
-        return even(pen, &bits, e1::is_word(slot0, 8 * f)).text(b"</g>\n");
+        let wrong = e1::wrong_bits(slot0, 8 * f) as usize;
+        return even(pen, &bits, wrong).text(b"</g>\n");
     }
     odd(pen, &bits, n, counts).text(b"</g>\n")
 }

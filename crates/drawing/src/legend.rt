@@ -12,6 +12,7 @@ path{stroke:#1f2a33;stroke-width:1.4}
 .e0.c1 rect{fill:#e69f00;stroke:#1f2a33;stroke-width:1.6}.a1 rect{stroke:#9c3500;stroke-width:2.4}
 .wrong rect,.right0 .word rect,.right0 .signal rect{fill:#9c3500;stroke:#9c3500}.cross{display:none}
 .wrong text,.right0 .word text,.right0 .signal text{fill:#fff;font-weight:bold}.right0 .cross{display:inline}
+.many{font-size:9px}
 .clean rect{stroke:#2f6f86}.clean text{fill:#2f6f86}.used0 rect,.e0.c0 rect,.dashed rect{stroke-dasharray:3 2}
 </style>
 ",
@@ -44,8 +45,9 @@ A block's own check is carried in C1 to C4 of the next row.</text>
 <g class='cell bits e0 c0'><rect width='84' height='24'/><text x='42' y='16'>E0</text></g></g>
 <g transform='translate(578 0)'><text x='92' y='16'>the alignment word</text>
 <g class='cell bits word'><rect width='84' height='24'/><text x='42' y='16'>0011011</text></g></g>
-<g transform='translate(578 30)'><text x='92' y='16'>a wrong word</text>
-<g class='cell bits wrong'><rect width='84' height='24'/><text x='42' y='16'>&#215;0001011</text></g></g>
+<g transform='translate(578 30)'><text x='92' y='16'>a word, 2 bits wrong</text>
+<g class='cell bits wrong'><rect width='84' height='24'/>\
+<text x='15' y='16'>&#215;<tspan class='many'>2</tspan></text><text x='52' y='16'>0001001</text></g></g>
 <g transform='translate(578 60)'><text x='92' y='16'>A is 1: alarm</text>
 <g class='cell bits a1'><rect width='84' height='24'/><text x='42' y='16'>1 1 11111</text></g></g>
 <g transform='translate(800 0)'><text x='92' y='16'>the next row's check agrees</text>

@@ -21,6 +21,7 @@ fn print_report(r: read::Reading) -> bool {
         & line(b"used ", r.used)
         & print_lost(r.lost)
         & line(b"words ", r.words)
+        & line(b"wordbits ", r.wordbits)
         & line(b"compared ", r.compared)
         & line(b"errored ", r.errored)
         & line(b"farend ", r.farend)
