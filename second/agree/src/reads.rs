@@ -2,6 +2,7 @@
 
 use crate::{seed, Kept};
 use given::{image, room, Random};
+use oracle::line::{bits, wrong_bits};
 use oracle::{read, Reading};
 
 const LINES: u64 = 24_000;
@@ -11,7 +12,8 @@ type Read = fn(&[u8], &mut [u8], &mut [u8]) -> Reading;
 /// Holds the reads of a form to the oracle's.
 pub fn reads(form: &str, other: Read) {
     let seed = seed(&format!("{LINES} lines read, {form}"));
-    let (mut numbers, mut bits) = ([0; 5], [0; 8]);
+    let (mut numbers, mut starts) = ([0; 5], [0; 8]);
+    let (mut several, mut hit) = (0, [0; 8]);
     for item in 0..LINES {
         let r = &mut Random::new(seed, item);
         let image = image(r);
@@ -19,18 +21,26 @@ pub fn reads(form: &str, other: Read) {
             name: format!("line-{seed}-{item}"),
             octets: &image,
         };
-        let reading = both(r, &image, other);
+        let (reading, slot0) = both(r, &image, other);
         numbers[reading.number as usize] += 1;
-        bits[reading.start as usize % 8] += 1;
+        starts[reading.start as usize % 8] += 1;
+        several += u64::from(reading.wordbits > reading.words);
+        for slot in slot0.iter().step_by(2) {
+            hit[wrong_bits(&bits(&[*slot]), 0) as usize] += 1;
+        }
     }
     // Every answer, and every bit of an octet, has had its share of the lines.
     assert!(numbers.iter().all(|&count| count >= 500), "{numbers:?}");
     assert!(numbers[0] >= LINES / 3, "{numbers:?}");
-    assert!(bits.iter().all(|&count| count >= 500), "{bits:?}");
+    assert!(starts.iter().all(|&count| count >= 500), "{starts:?}");
+    // Words with any number of wrong bits have been read, several in a word often.
+    assert!(several >= numbers[0] / 8, "{several} of {numbers:?}");
+    assert!(hit.iter().all(|&count| count >= 500), "{hit:?}");
 }
 
-/// Every octet and every number, with outputs of lengths that matter.
-fn both(r: &mut Random, image: &[u8], other: Read) -> Reading {
+/// Every octet and every number, with outputs of lengths that matter. It gives
+/// the answer and slot 0 of the frames used.
+fn both(r: &mut Random, image: &[u8], other: Read) -> (Reading, Vec<u8>) {
     let need = read(image, &mut [0; 7_936], &mut [0; 256]);
     let used = need.used as usize;
     let (room, room0) = match need.number {
@@ -53,5 +63,6 @@ fn both(r: &mut Random, image: &[u8], other: Read) -> Reading {
     let used = reading.used as usize;
     assert!(payload[496 * used..] == before[496 * used..]);
     assert!(slot0[16 * used..] == before0[16 * used..]);
-    reading
+    slot0.truncate(16 * used);
+    (reading, slot0)
 }

@@ -1,10 +1,15 @@
-//! The oracle held to the bench cases of the paper, by their numbers.
+//! The oracle held to the bench cases of the paper, by their numbers, and to
+//! what the paper promises of `wordbits`.
 
-use given::making::{shifted, wrong_words};
+use agree::seed;
+use given::making::{flip, shifted, wrong_words};
+use given::Random;
 use oracle::check::check;
-use oracle::line::{number, BLOCK};
+use oracle::line::{bits, number, wrong_bits, BLOCK, FRAME, WORD};
 use oracle::writing::odd_slot0;
 use oracle::{read, report, write, Answer, Exchange, Reading};
+
+const IMAGES: u64 = 4_000;
 
 /// The check of a block that is 1 at these places only, as C1 to C4 read.
 fn check_of(ones: &[usize]) -> String {
@@ -145,13 +150,82 @@ fn case_11_loss() {
 
 #[test]
 fn case_12_report() {
-    let lines =
-        "place 0\nstart 0\nwhole 4\nused 4\nlost no\nwords 0\ncompared 7\nerrored 0\nfarend 0\n";
-    assert_eq!(report(&line(4)), lines);
+    let lines = [
+        "place 0",
+        "start 0",
+        "whole 4",
+        "used 4",
+        "lost no",
+        "words 0",
+        "wordbits 0",
+        "compared 7",
+        "errored 0",
+        "farend 0",
+        "",
+    ];
+    assert_eq!(report(&line(4)), lines.join("\n"));
     assert_eq!(report(&[0; 2_048]), "refused 3\n");
     let mut image = line(4);
     wrong_words(&mut image, &[28, 30, 32]);
-    assert!(report(&image).contains("\nlost 32\n"));
+    assert!(report(&image).contains("\nlost 32\nwords 2\nwordbits 2\ncompared 3\n"));
+}
+
+#[test]
+fn case_13_wrong_bits() {
+    let mut image = line(4);
+    flip(&mut image, 20 * FRAME + 7);
+    for bit in 1..=7 {
+        flip(&mut image, 24 * FRAME + bit);
+    }
+    let r = read_all(&image);
+    assert_eq!((r.number, r.words, r.wordbits), (0, 2, 8));
+    assert!(report(&image).contains("\nlost no\nwords 2\nwordbits 8\n"));
+}
+
+#[test]
+fn wrong_bits_of_every_slot() {
+    for slot in 0..=255_u8 {
+        let ones = ((slot ^ 0b001_1011) & 0b111_1111).count_ones();
+        assert_eq!(wrong_bits(&bits(&[slot]), 0), u64::from(ones));
+    }
+}
+
+/// What is promised of `wordbits`, of images as they may come.
+#[test]
+fn wordbits_and_words() {
+    let seed = seed(&format!("{IMAGES} images, words and their bits"));
+    let mut one_more = 0;
+    for item in 0..IMAGES {
+        let r = &mut Random::new(seed, item);
+        let mut image = given::image(r);
+        let before = read_all(&image);
+        assert!(before.words <= before.wordbits, "image {item}");
+        assert!(before.wordbits <= 7 * before.words, "image {item}");
+        assert_eq!(before.wordbits == 0, before.words == 0, "image {item}");
+        if !turn_over_a_right_bit(r, &mut image, &before) {
+            continue;
+        }
+        let after = read_all(&image);
+        if (after.number, after.start, after.used) == (0, before.start, before.used) {
+            assert_eq!(after.wordbits, before.wordbits + 1, "image {item}");
+            one_more += 1;
+        }
+    }
+    assert!(one_more >= IMAGES / 2, "{one_more}");
+}
+
+/// Turns over any bit of a used word, where that bit is right.
+fn turn_over_a_right_bit(r: &mut Random, image: &mut [u8], reading: &Reading) -> bool {
+    if reading.used == 0 {
+        return false;
+    }
+    let (word, bit) = (r.below(8 * reading.used as usize), r.below(7));
+    let place = reading.start as usize + 2 * word * FRAME + 1 + bit;
+    let right = bits(image)[place] == WORD[bit];
+    if right {
+        flip(image, place);
+    }
+    right
 }
 
 #[test]

@@ -16,6 +16,7 @@ pub fn all() -> String {
     lengths(&mut text);
     places(&mut text);
     losses(&mut text);
+    words(&mut text);
     blocks(&mut text);
     far_ends(&mut text);
     outputs(&mut text);
@@ -64,13 +65,16 @@ fn read_into(text: &mut String, label: &str, image: &[u8], room: usize, room0: u
     write!(text, " used {} lost {}", r.used, r.lost).unwrap();
     write!(text, " words {} compared {}", r.words, r.compared).unwrap();
     write!(text, " errored {} farend {}", r.errored, r.farend).unwrap();
-    writeln!(
-        text,
-        " payload {} slot0 {}",
-        digest(&payload),
-        digest(&slot0)
-    )
-    .unwrap();
+    write!(text, " wordbits {}", r.wordbits).unwrap();
+    let (payload, slot0) = (digest(&payload), digest(&slot0));
+    writeln!(text, " payload {payload} slot0 {slot0}").unwrap();
+}
+
+/// Turns over the bits at these places.
+fn hit(image: &mut [u8], places: &[usize]) {
+    for place in places {
+        flip(image, *place);
+    }
 }
 
 /// With room for all that any image holds.
@@ -155,22 +159,44 @@ fn losses(text: &mut String) {
     read_case(text, "loss before", &image[64..]);
 }
 
-fn blocks(text: &mut String) {
-    let mut hit = |label: &str, places: &[usize]| {
+fn words(text: &mut String) {
+    // These words are wrong, and these bits of the line are hit.
+    let mut wrong = |label: &str, frames: &[usize], places: &[usize]| {
         let mut image = line(4);
-        for place in places {
-            flip(&mut image, *place);
-        }
+        wrong_words(&mut image, frames);
+        hit(&mut image, places);
         read_case(text, label, &image);
     };
-    hit("data of block 2", &[4_200]);
-    hit("last bit of block 0", &[2_047]);
-    hit("check of block 2", &[4_096]);
-    hit("check of block 0", &[0, 512, 1_024, 1_536]);
-    hit("data of block 7", &[16_383]);
-    hit("four bits", &[4_200, 4_201, 4_202, 4_203]);
-    hit("five bits", &[4_200, 4_203, 4_204]);
-    hit("two blocks", &[4_200, 6_300, 6_301]);
+    let word_20: Vec<usize> = (5_121..=5_127).collect();
+    let word_24: Vec<usize> = (6_145..=6_151).collect();
+    let word_40: Vec<usize> = (10_241..=10_247).collect();
+    wrong("13", &[20], &word_24);
+    for n in 0..=7 {
+        wrong(&format!("word bits {n}"), &[], &word_20[..n]);
+    }
+    for bit in 2..=8 {
+        wrong(&format!("word bit {bit}"), &[], &[5_119 + bit]);
+    }
+    wrong("word and check", &[], &[5_120, 5_121]);
+    wrong("loss by single bits", &[], &[7_169, 7_684, 8_199]);
+    wrong("bits before the loss", &[32, 34, 36], &word_20[..3]);
+    wrong("bits past the loss", &[28, 30, 32], &word_40);
+}
+
+fn blocks(text: &mut String) {
+    let mut block = |label: &str, places: &[usize]| {
+        let mut image = line(4);
+        hit(&mut image, places);
+        read_case(text, label, &image);
+    };
+    block("data of block 2", &[4_200]);
+    block("last bit of block 0", &[2_047]);
+    block("check of block 2", &[4_096]);
+    block("check of block 0", &[0, 512, 1_024, 1_536]);
+    block("data of block 7", &[16_383]);
+    block("four bits", &[4_200, 4_201, 4_202, 4_203]);
+    block("five bits", &[4_200, 4_203, 4_204]);
+    block("two blocks", &[4_200, 6_300, 6_301]);
 }
 
 fn far_ends(text: &mut String) {
@@ -180,9 +206,7 @@ fn far_ends(text: &mut String) {
         overhead[8 * m + 6] -= 64;
         overhead[8 * m + 7] -= 64;
         let mut image = line_of(&payload(496 * 4), &overhead);
-        for place in places {
-            flip(&mut image, *place);
-        }
+        hit(&mut image, places);
         read_case(text, label, &image);
     };
     far("far clean", 1, &[]);

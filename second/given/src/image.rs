@@ -120,12 +120,26 @@ fn hit(r: &mut Random, line: &mut [u8], places: impl Iterator<Item = usize>, tim
     }
 }
 
+/// Turns over bits of the word in each of these frames, once in `times`: 1 to
+/// 7 of them, each number as often.
+fn hit_words(r: &mut Random, line: &mut [u8], frames: impl Iterator<Item = usize>, times: usize) {
+    for f in frames {
+        if r.once_in(times) {
+            let mut word = [1, 2, 3, 4, 5, 6, 7];
+            for i in 0..r.between(1, 7) {
+                word.swap(i, r.between(i, 6));
+                line[f * FRAME + word[i]] ^= 1;
+            }
+        }
+    }
+}
+
 fn damage(r: &mut Random, line: &mut Vec<u8>) {
     let length = line.len();
     let (frames, multiframes) = (length / FRAME, length / MULTIFRAME);
     let times = r.pick(&[1, 2, 3, 5, 10, 30]);
     let at = r.below(length);
-    match r.below(14) {
+    match r.below(16) {
         // Anywhere.
         0 => {
             for _ in 0..r.between(1, 300) {
@@ -147,39 +161,43 @@ fn damage(r: &mut Random, line: &mut Vec<u8>) {
             let end = length.min(at + r.between(1, 6_000));
             hit(r, line, at..end, 2);
         }
-        // Words, each by one of its bits; three words in a row.
+        // Words, all by the same bit, each by any of its bits; some in a row.
         6 => {
             let bit = r.between(1, 7);
             let words = (0..frames).step_by(2).map(|f| f * FRAME + bit);
             hit(r, line, words, times);
         }
-        7 => {
+        7 | 8 => {
+            let times = r.pick(&[3, 5, 10, 30]);
+            hit_words(r, line, (0..frames).step_by(2), times);
+        }
+        9 => {
             let first = 2 * r.below(frames / 2);
             let in_row = r.between(2, 4);
             let words = (first..frames).step_by(2).take(in_row);
-            hit(r, line, words.map(|f| f * FRAME + 7), 1);
+            hit_words(r, line, words, 1);
         }
         // Bit 2 of odd frames.
-        8 => {
+        10 => {
             let seconds = (1..frames).step_by(2).map(|f| f * FRAME + 1);
             hit(r, line, seconds, times);
         }
         // Signals, E bits, check bits, all bits 1 of odd frames.
-        9 => {
+        11 => {
             let f = r.pick(&[1, 3, 5, 7, 9, 11]);
             let signals = (0..multiframes).map(|m| (16 * m + f) * FRAME);
             hit(r, line, signals, times);
         }
-        10 => {
+        12 => {
             let f = r.pick(&[13, 15]);
             let es = (0..multiframes).map(|m| (16 * m + f) * FRAME);
             hit(r, line, es, times);
         }
-        11 => {
+        13 => {
             let checks = (0..frames).step_by(2).map(|f| f * FRAME);
             hit(r, line, checks, times);
         }
-        12 => {
+        14 => {
             let firsts = (1..frames).step_by(2).map(|f| f * FRAME);
             hit(r, line, firsts, times);
         }

@@ -68,14 +68,14 @@ pub fn densest(count: usize) -> Vec<u8> {
 #[cfg(test)]
 mod tests {
     use super::*;
-    use oracle::line::word_at;
+    use oracle::line::wrong_bits;
 
     /// The densest false starts are as many as they are said to be.
     #[test]
     fn densest_is_dense() {
         let image = bits(&densest(8_192));
-        let aligned =
-            |p: &usize| word_at(&image, *p) && image[p + 257] == 1 && word_at(&image, p + 512);
+        let word_at = |p: usize| wrong_bits(&image, p) == 0;
+        let aligned = |p: &usize| word_at(*p) && image[p + 257] == 1 && word_at(p + 512);
         let count = (0..8 * 6_144).filter(aligned).count();
         assert!(count >= 6_144 / 32 * 36 - 1, "{count}");
     }

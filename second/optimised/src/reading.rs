@@ -3,6 +3,7 @@
 
 use crate::check::check;
 use crate::place;
+use crate::window;
 use oracle::Reading;
 
 fn refused(number: u64) -> Reading {
@@ -29,12 +30,14 @@ pub fn read(image: &[u8], payload: &mut [u8], slot0: &mut [u8]) -> Reading {
     let (line, o) = (&image[start / 8..], start % 8);
     let mut slots = [0; 256];
     gather(line, o, &mut slots[..16 * whole]);
-    let lost = loss(&slots[..16 * whole]);
+    let mut wrong = [0; 128];
+    judge(&slots, &mut wrong[..8 * whole]);
+    let lost = loss(&wrong[..8 * whole]);
     let used = lost.map_or(whole, |f| f / 16);
     if payload.len() < 496 * used || slot0.len() < 16 * used {
         return refused(4);
     }
-    let slots = &slots[..16 * used];
+    let (slots, wrong) = (&slots[..16 * used], &wrong[..8 * used]);
     slot0[..16 * used].copy_from_slice(slots);
     take(line, o, &mut payload[..496 * used]);
     let (errored, farend) = compare(line, o, slots);
@@ -45,10 +48,11 @@ pub fn read(image: &[u8], payload: &mut [u8], slot0: &mut [u8]) -> Reading {
         whole: whole as u64,
         used: used as u64,
         lost: lost.unwrap_or(0) as u64,
-        words: slots.iter().step_by(2).filter(|s| wrong(**s)).count() as u64,
+        words: wrong.iter().filter(|bits| **bits != 0).count() as u64,
         compared: (2 * used as u64).saturating_sub(1),
         errored,
         farend,
+        wordbits: ones(wrong),
     }
 }
 
@@ -60,16 +64,24 @@ fn gather(line: &[u8], o: usize, slots: &mut [u8]) {
     }
 }
 
-/// Whether slot 0 of an even frame has a wrong word.
-fn wrong(slot: u8) -> bool {
-    slot & 0x7F != 0x1B
+/// The wrong bits of every word, each a 1 in the word's own octet.
+fn judge(slots: &[u8], wrong: &mut [u8]) {
+    for (slots, wrong) in slots.chunks_exact(2).zip(wrong) {
+        *wrong = (slots[0] ^ 0x1B) & 0x7F;
+    }
+}
+
+/// How many wrong bits there are, a multiframe's eight words at a time.
+fn ones(wrong: &[u8]) -> u64 {
+    let ones = |words: &[u8]| u64::from(window(words, 0).count_ones());
+    wrong.chunks_exact(8).map(ones).sum()
 }
 
 /// The first even frame that ends three wrong words in a row.
-fn loss(slots: &[u8]) -> Option<usize> {
+fn loss(wrong: &[u8]) -> Option<usize> {
     let mut row = 0;
-    for (i, slot) in slots.iter().step_by(2).enumerate() {
-        row = if wrong(*slot) { row + 1 } else { 0 };
+    for (i, bits) in wrong.iter().enumerate() {
+        row = if *bits != 0 { row + 1 } else { 0 };
         if row == 3 {
             return Some(2 * i);
         }

@@ -38,7 +38,14 @@ pub fn octets(bits: &[u8]) -> Vec<u8> {
     bits.chunks(8).map(number).collect()
 }
 
-/// Whether the frame that begins at this bit place has the alignment word.
-pub fn word_at(bits: &[u8], frame: usize) -> bool {
-    bits[frame + 1..frame + 8] == WORD
+/// How many bits of the alignment word are wrong, 0 to 7, in the frame that
+/// begins at this bit place. A word is wrong where this is not 0.
+pub fn wrong_bits(bits: &[u8], frame: usize) -> u64 {
+    let mut wrong = 0;
+    for (bit, right) in bits[frame + 1..frame + 8].iter().zip(&WORD) {
+        if bit != right {
+            wrong += 1;
+        }
+    }
+    wrong
 }

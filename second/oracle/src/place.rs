@@ -1,9 +1,9 @@
 //! Which place stands.
 
-use crate::line::{word_at, SIGNAL};
+use crate::line::{wrong_bits, SIGNAL};
 
 fn basic_alignment(bits: &[u8], p: usize) -> bool {
-    word_at(bits, p) && bits[p + 257] == 1 && word_at(bits, p + 512)
+    wrong_bits(bits, p) == 0 && bits[p + 257] == 1 && wrong_bits(bits, p + 512) == 0
 }
 
 fn signal_at(bits: &[u8], p: usize, k: usize) -> bool {

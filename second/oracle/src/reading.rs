@@ -1,7 +1,7 @@
 //! Reading from the start.
 
 use crate::check::{carried, check};
-use crate::line::{bits, octets, word_at, BLOCK, FRAME, MULTIFRAME};
+use crate::line::{bits, octets, wrong_bits, BLOCK, FRAME, MULTIFRAME};
 use crate::place;
 
 /// What a read answers. Of a refusal all but the number is 0.
@@ -17,6 +17,7 @@ pub struct Reading {
     pub compared: u64,
     pub errored: u64,
     pub farend: u64,
+    pub wordbits: u64,
 }
 
 fn refused(number: u64) -> Reading {
@@ -43,12 +44,13 @@ pub fn read(image: &[u8], payload: &mut [u8], slot0: &mut [u8]) -> Reading {
     let start = p + 512 * k;
     let whole = (image.len() - start) / MULTIFRAME;
     let line = &image[start..start + whole * MULTIFRAME];
-    let lost = loss(line);
+    let words = words(line);
+    let lost = loss(&words);
     let used = lost.map_or(whole, |f| f / 16);
     if payload.len() < 496 * used || slot0.len() < 16 * used {
         return refused(4);
     }
-    let line = &line[..used * MULTIFRAME];
+    let (line, words) = (&line[..used * MULTIFRAME], &words[..8 * used]);
     take(line, payload, slot0);
     let agreed = agreed(line);
     Reading {
@@ -58,23 +60,29 @@ pub fn read(image: &[u8], payload: &mut [u8], slot0: &mut [u8]) -> Reading {
         whole: whole as u64,
         used: used as u64,
         lost: lost.unwrap_or(0) as u64,
-        words: word_errors(line),
+        words: words.iter().filter(|&&bits| bits != 0).count() as u64,
         compared: agreed.len() as u64,
         errored: agreed.iter().filter(|&&agreed| !agreed).count() as u64,
         farend: far_end_errors(line, &agreed),
+        wordbits: words.iter().sum(),
     }
 }
 
-fn word_wrong(line: &[u8], f: usize) -> bool {
-    !word_at(line, f * FRAME)
+/// How many bits are wrong in each word; word w is that of frame 2w.
+fn words(line: &[u8]) -> Vec<u64> {
+    let frames = line.len() / FRAME;
+    (0..frames)
+        .step_by(2)
+        .map(|f| wrong_bits(line, f * FRAME))
+        .collect()
 }
 
 /// The first even frame that ends three wrong words in a row.
-fn loss(line: &[u8]) -> Option<usize> {
-    let frames = line.len() / FRAME;
-    (4..frames)
-        .step_by(2)
-        .find(|&f| [f - 4, f - 2, f].iter().all(|&f| word_wrong(line, f)))
+fn loss(words: &[u64]) -> Option<usize> {
+    let wrong = |w: usize| words[w] != 0;
+    (2..words.len())
+        .find(|&w| wrong(w - 2) && wrong(w - 1) && wrong(w))
+        .map(|w| 2 * w)
 }
 
 /// Slot 0 of every frame to one output, slots 1 to 31 to the other.
@@ -84,14 +92,6 @@ fn take(line: &[u8], payload: &mut [u8], slot0: &mut [u8]) {
         slot0[f] = slots[0];
         payload[31 * f..31 * (f + 1)].copy_from_slice(&slots[1..]);
     }
-}
-
-fn word_errors(line: &[u8]) -> u64 {
-    let frames = line.len() / FRAME;
-    (0..frames)
-        .step_by(2)
-        .filter(|&f| word_wrong(line, f))
-        .count() as u64
 }
 
 /// For every block but the last, whether its check is what the next carries.
@@ -128,8 +128,17 @@ pub fn report(image: &[u8]) -> String {
         0 => "no".to_string(),
         f => f.to_string(),
     };
-    format!(
-        "place {}\nstart {}\nwhole {}\nused {}\nlost {}\nwords {}\ncompared {}\nerrored {}\nfarend {}\n",
-        r.place, r.start, r.whole, r.used, lost, r.words, r.compared, r.errored, r.farend
-    )
+    [
+        format!("place {}\n", r.place),
+        format!("start {}\n", r.start),
+        format!("whole {}\n", r.whole),
+        format!("used {}\n", r.used),
+        format!("lost {lost}\n"),
+        format!("words {}\n", r.words),
+        format!("wordbits {}\n", r.wordbits),
+        format!("compared {}\n", r.compared),
+        format!("errored {}\n", r.errored),
+        format!("farend {}\n", r.farend),
+    ]
+    .concat()
 }

@@ -47,6 +47,7 @@ pub fn read(image: &[u8], payload: &mut [u8], slot0: &mut [u8]) -> Reading {
             compared: r.compared as u64,
             errored: r.errored as u64,
             farend: r.farend as u64,
+            wordbits: r.wordbits as u64,
         },
         Err(refusal) => Reading {
             number: refusal.number(),
@@ -55,7 +56,7 @@ pub fn read(image: &[u8], payload: &mut [u8], slot0: &mut [u8]) -> Reading {
     };
     let values = [
         r.number, r.place, r.start, r.whole, r.used, r.lost, r.words, r.compared, r.errored,
-        r.farend,
+        r.farend, r.wordbits,
     ];
     assert_eq!(answer, places(values));
     assert!(c_payload == payload && c_slot0 == slot0, "outputs of {r:?}");
