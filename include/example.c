@@ -15,18 +15,27 @@ static enum status failed(const char *what)
     return FAILED;
 }
 
+/* The lines of a report. */
+static const struct {
+    const char *name;
+    enum jk_place place;
+} line[] = {
+    {"place", JK_PLACE}, {"start", JK_START}, {"whole", JK_WHOLE}, {"used", JK_USED}, {"lost", JK_LOST},
+    {"words", JK_WORDS}, {"wordbits", JK_WORDBITS}, {"compared", JK_COMPARED}, {"errored", JK_ERRORED},
+    {"farend", JK_FAREND}
+};
+
 static void print(const uint64_t answer[JK_ANSWER])
 {
-    static const char *const name[] = {
-        "place", "start", "whole", "used", "lost", "words", "compared", "errored", "farend"
-    };
-    int place;
+    size_t i;
 
-    for (place = JK_PLACE; place <= JK_FAREND; place++) {
-        if (place == JK_LOST && answer[place] == 0)
+    for (i = 0; i < sizeof line / sizeof *line; i++) {
+        uint64_t value = answer[line[i].place];
+
+        if (line[i].place == JK_LOST && value == 0)
             printf("lost no\n");
         else
-            printf("%s %lu\n", name[place - JK_PLACE], (unsigned long)answer[place]);
+            printf("%s %lu\n", line[i].name, (unsigned long)value);
     }
 }
 

@@ -21,9 +21,9 @@
 #include <stdint.h>
 
 #define JK_VERSION_MAJOR 0
-#define JK_VERSION_MINOR 1
+#define JK_VERSION_MINOR 2
 #define JK_VERSION_PATCH 0
-#define JK_VERSION "0.1.0"
+#define JK_VERSION "0.2.0"
 
 #define JK_ANSWER 16 /* places of an answer */
 #define JK_STATE 99  /* octets of a state */
@@ -51,21 +51,22 @@ enum jk_place {
     JK_NUMBER = 0,
 
     /* jk_read */
-    JK_PLACE = 1,    /* the bit at which alignment stands */
-    JK_START = 2,    /* the bit at which the first multiframe starts */
-    JK_WHOLE = 3,    /* whole multiframes from there to the end of the image */
-    JK_USED = 4,     /* those before the one in which alignment is lost */
-    JK_LOST = 5,     /* the frame, numbered from the start, at which it is lost; 0 where it is not */
-    JK_WORDS = 6,    /* wrong alignment words in the multiframes used */
-    JK_COMPARED = 7, /* blocks compared with the check bits after them */
-    JK_ERRORED = 8,  /* those of them that differ */
-    JK_FAREND = 9,   /* E bits that are 0, in multiframes whose second block was compared and agreed */
+    JK_PLACE = 1,     /* the bit at which alignment stands */
+    JK_START = 2,     /* the bit at which the first multiframe starts */
+    JK_WHOLE = 3,     /* whole multiframes from there to the end of the image */
+    JK_USED = 4,      /* those before the one in which alignment is lost */
+    JK_LOST = 5,      /* the frame, numbered from the start, at which it is lost; 0 where it is not */
+    JK_WORDS = 6,     /* wrong alignment words in the multiframes used */
+    JK_COMPARED = 7,  /* blocks compared with the check bits after them */
+    JK_ERRORED = 8,   /* those of them that differ */
+    JK_FAREND = 9,    /* E bits that are 0, in multiframes whose second block was compared and agreed */
+    JK_WORDBITS = 10, /* wrong bits of the alignment words in the multiframes used, 1 to 7 for each wrong word */
 
     /* jk_write */
-    JK_CHECK = 1,    /* the check of the last block, for the next call */
+    JK_CHECK = 1,     /* the check of the last block, for the next call */
 
     /* jk_host */
-    JK_ENTRY = 1     /* the entry that a record of kind 3 reads, 0 for any other */
+    JK_ENTRY = 1      /* the entry that a record of kind 3 reads, 0 for any other */
 };
 
 /* The kinds of a host's record. */
@@ -83,7 +84,7 @@ extern "C" {
 /*
  * Reads an image, whose bit 0 is the most significant bit of its first octet, from the first place that stands.
  * payload takes slots 1 to 31, 496 octets a multiframe used, and slot0 takes 16 a multiframe: 7,936 and 256 always do.
- * answer: JK_PLACE to JK_FAREND
+ * answer: JK_PLACE to JK_WORDBITS
  * Refused: 1 JK_SHORT_IMAGE, 2 JK_LONG_IMAGE, 3 JK_NO_PLACE, 4 JK_SHORT_OUTPUT
  */
 uint64_t jk_read(const uint8_t *image, size_t image_octets,

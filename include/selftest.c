@@ -54,9 +54,19 @@ static void writing(void)
     EXPECT(untouched(image + N * 512, sizeof image - N * 512));
 }
 
+/* Whether the image is read, with this answer to the last of its places. */
+static int reads(const uint64_t expected[JK_ANSWER])
+{
+    memset(answer, BEFORE, sizeof answer);
+    return jk_read(image, N * 512, back, sizeof back, slot0, sizeof slot0, answer) == JK_ACCEPTED
+        && !memcmp(answer, expected, sizeof answer);
+}
+
 static void reading(void)
 {
-    static const uint64_t clean[JK_ANSWER] = {JK_ACCEPTED, 0, 0, N, N, 0, 0, 2 * N - 1, 0, 0};
+    static const uint64_t clean[JK_ANSWER] = {JK_ACCEPTED, 0, 0, N, N, 0, 0, 2 * N - 1, 0, 0, 0};
+    static const uint64_t three[JK_ANSWER] = {JK_ACCEPTED, 0, 0, N, N, 0, 1, 2 * N - 1, 1, 0, 3};
+    static const uint64_t ten[JK_ANSWER] = {JK_ACCEPTED, 0, 0, N, N, 0, 2, 2 * N - 1, 2, 0, 10};
     static const uint8_t zeros[2048] = {0};
 
     memset(back, BEFORE, sizeof back);
@@ -67,9 +77,14 @@ static void reading(void)
     REFUSED(jk_read(image, 2048, back, sizeof back, slot0, sizeof slot0 - 1, answer), JK_SHORT_OUTPUT);
     EXPECT(untouched(back, sizeof back) && untouched(slot0, sizeof slot0));
 
-    EXPECT(jk_read(image, N * 512, back, sizeof back, slot0, sizeof slot0, answer) == JK_ACCEPTED);
-    EXPECT(!memcmp(answer, clean, sizeof clean) && !memcmp(back, payload, sizeof payload));
+    EXPECT(reads(clean) && !memcmp(back, payload, sizeof payload));
     EXPECT(untouched(back + sizeof payload, 1) && slot0[0] == image[0] && slot0[63] == image[63 * 32]);
+
+    /* three bits of a word hit, then all seven of one in another block */
+    image[20 * 32] ^= 0x07;
+    EXPECT(reads(three) && answer[JK_WORDS] == 1 && answer[JK_WORDBITS] == 3);
+    image[24 * 32] ^= 0x7F;
+    EXPECT(reads(ten) && answer[JK_WORDS] == 2 && answer[JK_WORDBITS] == 10);
 }
 
 static void map_and_key(void)

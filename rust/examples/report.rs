@@ -48,8 +48,17 @@ fn report(r: &Reading) -> String {
         Some(frame) => frame.to_string(),
         None => "no".to_string(),
     };
-    format!(
-        "place {}\nstart {}\nwhole {}\nused {}\nlost {}\nwords {}\ncompared {}\nerrored {}\nfarend {}\n",
-        r.place, r.start, r.whole, r.used, lost, r.words, r.compared, r.errored, r.farend
-    )
+    [
+        format!("place {}\n", r.place),
+        format!("start {}\n", r.start),
+        format!("whole {}\n", r.whole),
+        format!("used {}\n", r.used),
+        format!("lost {lost}\n"),
+        format!("words {}\n", r.words),
+        format!("wordbits {}\n", r.wordbits),
+        format!("compared {}\n", r.compared),
+        format!("errored {}\n", r.errored),
+        format!("farend {}\n", r.farend),
+    ]
+    .concat()
 }

@@ -34,6 +34,9 @@ pub struct Reading {
     /// E bits that are 0, in multiframes whose second block was compared and
     /// agreed.
     pub farend: usize,
+    /// Wrong bits of the alignment words in the multiframes used, 1 to 7 for
+    /// each wrong word.
+    pub wordbits: usize,
 }
 
 /// Reads an image, whose bit 0 is the most significant bit of its first octet,
@@ -62,7 +65,7 @@ pub fn read(image: &[u8], payload: &mut [u8], slot0: &mut [u8]) -> Result<Readin
             &mut answer,
         )
     })?;
-    let [_, place, start, whole, used, lost, words, compared, errored, farend, ..] =
+    let [_, place, start, whole, used, lost, words, compared, errored, farend, wordbits, ..] =
         answer.map(|value| value as usize);
     Ok(Reading {
         place,
@@ -74,6 +77,7 @@ pub fn read(image: &[u8], payload: &mut [u8], slot0: &mut [u8]) -> Result<Readin
         compared,
         errored,
         farend,
+        wordbits,
     })
 }
 

@@ -22,7 +22,7 @@ fn a_line_is_read_as_it_was_written() {
     let r = read(&line(4), &mut slots, &mut slot0).unwrap();
     assert_eq!((r.place, r.start, r.whole, r.used), (0, 0, 4, 4));
     assert_eq!((r.lost, r.words, r.compared), (None, 0, 7));
-    assert_eq!((r.errored, r.farend), (0, 0));
+    assert_eq!((r.errored, r.farend, r.wordbits), (0, 0, 0));
     assert_eq!(slots[..4 * 496], payload(4));
     assert_eq!(slots[4 * 496], BEFORE);
     assert!(slot0
@@ -39,6 +39,26 @@ fn a_loss_is_read() {
     }
     let r = read(&line, &mut [0; 7_936], &mut [0; 256]).unwrap();
     assert_eq!((r.whole, r.used, r.lost, r.words), (4, 2, Some(32), 2));
+    assert_eq!(r.wordbits, 2);
+}
+
+#[test]
+fn wrong_bits_of_words_are_counted() {
+    let mut line = line(4);
+    let mut hit = |frame: usize, bits: u8| {
+        line[32 * frame] ^= bits;
+        let r = read(&line, &mut [0; 7_936], &mut [0; 256]).unwrap();
+        assert_eq!((r.used, r.lost), (4, None));
+        (r.words, r.wordbits)
+    };
+    assert_eq!(hit(20, 0b000_0001), (1, 1));
+    assert_eq!(hit(24, 0b111_1111), (2, 8));
+    assert_eq!(hit(40, 0b010_1100), (3, 11));
+    // A check bit, and an odd frame's bits, are no part of a word.
+    assert_eq!(hit(44, 0b1000_0000), (3, 11));
+    assert_eq!(hit(45, 0b0111_1111), (3, 11));
+    // A bit hit again is right.
+    assert_eq!(hit(40, 0b000_0100), (3, 10));
 }
 
 #[test]
