@@ -11,6 +11,11 @@ abbrev pub orElse {ℓ} : {A : Type ℓ} → Option A → Option A → Option A
 orElse (some a) b = some a
 orElse none b = b
 
+-- what is there, else b
+abbrev pub valueOr {ℓ} : {A : Type ℓ} → Option A → A → A
+valueOr (some a) b = a
+valueOr none b = b
+
 -- a where the test holds
 abbrev pub whenSo {ℓ} : {A : Type ℓ} → Bool → A → Option A
 whenSo true a = some a

@@ -5,7 +5,8 @@ use mathlib.Core.Bool.{Bool, not}
 use mathlib.Core.List.{List, [], _∷_}
 use lib.Dec.{eqb}
 use lib.ListN.{getD}
-use Rattle.base.specs.Tab.{count}
+use Rattle.base.specs.Choice.{valueOr}
+use Rattle.base.specs.Tab.{count, least}
 use Rattle.line.specs.Bit.{bitAt}
 
 -- the place of frame f, numbered from the frame at q
@@ -31,6 +32,10 @@ wrongBits s q = count 7 (wrongBit s q)
 -- it is the alignment word: no bit of it is wrong
 abbrev pub wordAt : List ℕ → ℕ → Bool
 wordAt s q = eqb (wrongBits s q) 0
+
+-- the place of its first wrong bit; where none is wrong, of the bit behind the word
+unfoldable pub firstWrong : List ℕ → ℕ → ℕ
+firstWrong s q = q + 1 + valueOr (least 7 (wrongBit s q)) 7
 
 -- the multiframe signal: bit 1 of frames 1, 3, 5, 7, 9, 11
 abbrev pub signal : List ℕ

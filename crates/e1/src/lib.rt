@@ -3,7 +3,7 @@ ghost use mathlib.Core.Path.{_≡_};
 ghost use Prim.Native.Nat.{_+_, _*_, _<_, _≤_};
 ghost use Rattle.line.specs.Bit.{Room, octetBits};
 ghost use Rattle.base.specs.Tab.{tab};
-ghost use Rattle.e1.specs.Frame.{wrongBits, wordAt};
+ghost use Rattle.e1.specs.Frame.{wrongBits, wordAt, firstWrong};
 ghost use Rattle.e1.specs.Block.{blockBit, blockCheck, carried, agrees};
 ghost use Rattle.e1.specs.Payload.{sized};
 
@@ -21,6 +21,22 @@ pub fn is_word(s: &[u8], q: usize) -> bool
     ensures { λ r. ⌜ r ≡ wordAt (now (s .entry)) q ⌝ }
 {
     wrong_bits(s, q) == 0
+}
+
+// how far on from q its first wrong bit is: as far as the exclusive or has zeros in front
+fn zeros_before(s: &[u8], q: usize) -> u32
+    requires { ⌜ Room (now s) q 8 ⌝ }
+    ensures { λ r. ⌜ (q + r ≡ firstWrong (now (s .entry)) q) × (r ≤ 8) ⌝ }
+{
+    u8::leading_zeros(line::word(s, q) ^ 27)
+}
+
+// the place of its first wrong bit; where none is wrong, of the bit behind the word
+pub fn first_wrong(s: &[u8], q: usize) -> usize
+    requires { ⌜ Room (now s) q 8 ⌝ }
+    ensures { λ r. ⌜ r ≡ firstWrong (now (s .entry)) q ⌝ }
+{
+    q + zeros_before(s, q) as usize
 }
 
 // octet i of the block at q, its check places read as 0
