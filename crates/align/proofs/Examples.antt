@@ -1,4 +1,4 @@
--- Worked examples of the first place that stands.
+-- Worked examples of the first place that stands, and of what is said of a place.
 use Prim.Native.Nat.{ℕ, _+_, _-_, _*_, _/_, _%_}
 use mathlib.Core.Path.{_≡_, refl}
 use mathlib.Core.Bool.{cond}
@@ -8,8 +8,10 @@ use lib.Dec.{eqb, leb}
 use lib.ListN.{getD}
 use Rattle.line.specs.Bit.{bitAt}
 use Rattle.base.specs.Tab.{tab, tabFrom, sum, all, first}
-use Rattle.e1.specs.Frame.{wrongBits, signal}
+use Rattle.e1.specs.Frame.{wrongBits, firstWrong, signal}
 use Rattle.align.specs.Place.{basic, signalAt, pairAt, standing, firstStanding}
+use Rattle.align.specs.Why.{judged, whyRefusal, why}
+use Rattle.align.specs.declared.Why.the-variants.{NoneFails, FirstWord, NoPair, Refused}
 
 -- n octets: the word in every other frame; m(k) is 1 before a, and from there on the signal and two 0s over and over
 image : ℕ → ℕ → List ℕ
@@ -37,3 +39,20 @@ last-k = refl
 past-the-last-k : firstStanding (image 19 2048) ≡ none
 unfolding image firstStanding first standing basic pairAt signalAt all bitAt wrongBits sum tabFrom
 past-the-last-k = refl
+
+said-with-18 : why (image 18 2048) 0 ≡ NoneFails 18
+unfolding image why whyRefusal judged first pairAt signalAt all bitAt wrongBits sum tabFrom
+said-with-18 = refl
+
+said-of-19 : why (image 19 2048) 0 ≡ NoPair
+unfolding image why whyRefusal judged first pairAt signalAt all bitAt wrongBits sum tabFrom
+said-of-19 = refl
+
+-- an octet of zeros: the first 1 of the word is not there
+said-of-zeros : why (image 0 2049) 8 ≡ FirstWord 11
+unfolding image why whyRefusal judged first pairAt signalAt all bitAt wrongBits firstWrong sum tabFrom
+said-of-zeros = refl
+
+too-late : why (image 0 2049) 9 ≡ Refused 14
+unfolding image why whyRefusal tabFrom
+too-late = refl

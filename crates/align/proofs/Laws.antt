@@ -13,7 +13,8 @@ use lib.ListN.{length, getD}
 use Rattle.line.specs.Bit.{bitAt, field}
 use Rattle.base.specs.Tab.{least}
 use Rattle.base.proofs.ChoiceLaws.{denies}
-use Rattle.base.proofs.TabLaws.{all-at, at-all, least-some, least-none, first-some, first-none, none-first, some-first}
+use Rattle.base.proofs.TabLaws.{all-at, at-all, least-some, least-none, none-least, first-some, first-none, none-first}
+use Rattle.base.proofs.TabLaws.{some-first}
 use Rattle.e1.specs.Frame.{wordAt, signal}
 use Rattle.e1.proofs.WordLaws.{word-holds}
 use Rattle.align.specs.Place.{basic, mark, signalAt, againAt, pairAt, Standing, withPlace, standing}
@@ -38,27 +39,32 @@ some-j-passes t = (there (t 1) (t 2) refl refl, λ h. back (h .0) (h .1) (h .2) 
     back (suc (suc (suc (suc j)))) h g e = absurd (omega arith)
 
 module _ (s : List ℕ) (p : ℕ) where
-  pub basic-holds : basic s p ≡ true ↔ Basic s p
-  unfolding basic
-  basic-holds = (there, back)
+  -- basic alignment, by what is tested
+  pub basic-parts : (wordAt s p ≡ true) × (eqb (bitAt s (p + 257)) 1 ≡ true) × (wordAt s (p + 512) ≡ true) ↔ Basic s p
+  basic-parts = (
+    λ t.
+        record {
+          word = word-holds s p .0 (t .0);
+          bit-2 = eqb-true _ _ (t .1);
+          word-again = rw next at (word-holds s (p + 512) .0 (t .2));
+        },
+    λ h.
+        let again : field s (p + 512 + 1) 7 ≡ 27 = rw next (h .word-again) in
+        (word-holds s p .1 (h .word), eq-eqb _ _ (h .bit-2), word-holds s (p + 512) .1 again),
+  )
     where
       next : p + 512 + 1 ≡ p + 513
       next = omega arith
 
+  pub basic-holds : basic s p ≡ true ↔ Basic s p
+  unfolding basic
+  basic-holds = (there, λ h. let t = basic-parts .1 h in rw (t .0, t .1, t .2))
+    where
       there : basic s p ≡ true → Basic s p
       there e =
           let a = and-eq-true-iff (wordAt s p) (eqb (bitAt s (p + 257)) 1 && wordAt s (p + 512)) .0 e in
           let b = and-eq-true-iff (eqb (bitAt s (p + 257)) 1) (wordAt s (p + 512)) .0 (a .1) in
-          record {
-            word = word-holds s p .0 (a .0);
-            bit-2 = eqb-true _ _ (b .0);
-            word-again = rw next at (word-holds s (p + 512) .0 (b .1));
-          }
-
-      back : Basic s p → basic s p ≡ true
-      back h =
-          let again : field s (p + 512 + 1) 7 ≡ 27 = rw next (h .word-again) in
-          rw (word-holds s p .1 (h .word), eq-eqb _ _ (h .bit-2), word-holds s (p + 512) .1 again)
+          basic-parts .0 (a .0, b .0, b .1)
 
   pub signal-holds : (k : ℕ) → signalAt s p k ≡ true ↔ Signal s p k
   unfolding signalAt
@@ -95,6 +101,29 @@ module _ (s : List ℕ) (p : ℕ) where
   pub pair-below : (k : ℕ) → Pair s p k → k < 19
   pair-below k h = omega arith
 
+  -- the least k that is worked out
+  pub least-k : (k : ℕ) → least 32 (pairAt s p) ≡ some k ↔ (Pair s p k × ((l : ℕ) → l < k → Pair s p l → ⊥))
+  least-k k = (there, back)
+    where
+      there : least 32 (pairAt s p) ≡ some k → Pair s p k × ((l : ℕ) → l < k → Pair s p l → ⊥)
+      there e =
+          let l = least-some 32 (pairAt s p) k .0 e in
+          (pair-holds k .0 (l .passes), λ j h. denies (pair-holds j) (l .before j h))
+
+      back : Pair s p k × ((l : ℕ) → l < k → Pair s p l → ⊥) → least 32 (pairAt s p) ≡ some k
+      back h =
+          least-some 32 (pairAt s p) k .1 (record {
+            below = omega (arith, pair-below k (h .0));
+            passes = pair-holds k .1 (h .0);
+            before = λ j g. eq-false-of-not-eq-true (λ e. h .1 j g (pair-holds j .0 e));
+          })
+
+  pub no-k : least 32 (pairAt s p) ≡ none ↔ ((k : ℕ) → Pair s p k → ⊥)
+  no-k = (
+    λ e k h. denies (pair-holds k) (least-none 32 (pairAt s p) e k (omega (arith, pair-below k h))) h,
+    λ h. none-least 32 (pairAt s p) (λ k l. eq-false-of-not-eq-true (λ e. h k (pair-holds k .0 e))),
+  )
+
   -- what `standing` is worked out from
   from-cond : (b : Bool) (o : Option ℕ) (w : Standing) → cond b (withPlace p o) none ≡ some w
       → (b ≡ true) × (o ≡ some (w .k)) × (w .place ≡ p)
@@ -109,28 +138,15 @@ module _ (s : List ℕ) (p : ℕ) where
   some-stands w e =
       let a = from-cond (leb (p + 16384) (8 * length s) && basic s p) (least 32 (pairAt s p)) w e in
       let b = and-eq-true-iff (leb (p + 16384) (8 * length s)) (basic s p) .0 (a .0) in
-      let l = least-some 32 (pairAt s p) (w .k) .0 (a .1) in (
-        a .2,
-        record {
-          room = leb-true _ _ (b .0);
-          basic = basic-holds .0 (b .1);
-          pair = pair-holds (w .k) .0 (l .passes);
-          least = λ j h. denies (pair-holds j) (l .before j h);
-        },
-      )
+      let l = least-k (w .k) .0 (a .1) in
+      (a .2, record { room = leb-true _ _ (b .0); basic = basic-holds .0 (b .1); pair = l .0; least = l .1 })
 
   pub stands-here : (k : ℕ) → standing s p ≡ some (record { place = p; k = k }) ↔ Stands s p k
   unfolding standing
   stands-here k = (λ e. some-stands (record { place = p; k = k }) e .1, back)
     where
       back : Stands s p k → standing s p ≡ some (record { place = p; k = k })
-      back h =
-          let l : least 32 (pairAt s p) ≡ some k = least-some 32 (pairAt s p) k .1 (record {
-            below = omega (arith, pair-below k (h .pair));
-            passes = pair-holds k .1 (h .pair);
-            before = λ j g. eq-false-of-not-eq-true (λ e. h .least j g (pair-holds j .0 e));
-          }) in
-          rw (le-leb _ _ (h .room), basic-holds .1 (h .basic), l)
+      back h = rw (le-leb _ _ (h .room), basic-holds .1 (h .basic), least-k k .1 (h .pair, h .least))
 
   none-here : ((k : ℕ) → Stands s p k → ⊥) → standing s p ≡ none
   none-here h = go (standing s p) refl
@@ -144,18 +160,10 @@ module _ (s : List ℕ) (p : ℕ) where
   some-k k room basic pair = go (least 32 (pairAt s p)) refl
     where
       go : (o : Option ℕ) → least 32 (pairAt s p) ≡ o → (l : ℕ) × Stands s p l
-      go none e =
-          absurd (denies (pair-holds k) (least-none 32 (pairAt s p) e k (omega (arith, pair-below k pair))) pair)
+      go none e = absurd (no-k .0 e k pair)
       go (some l) e =
-          let h = least-some 32 (pairAt s p) l .0 e in (
-            l,
-            record {
-              room = room;
-              basic = basic;
-              pair = pair-holds l .0 (h .passes);
-              least = λ j g. denies (pair-holds j) (h .before j g);
-            },
-          )
+          let h = least-k l .0 e in
+          (l, record { room = room; basic = basic; pair = h .0; least = h .1 })
 
 module _ (s : List ℕ) where
   -- the place and the k that are worked out are those of the first place that stands

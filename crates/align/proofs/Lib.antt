@@ -1,3 +1,4 @@
 pub mod Laws
+pub mod WhyLaws
 pub mod Rows
 pub mod Examples

@@ -1,3 +1,5 @@
 pub mod Place
 pub mod Stands
+pub mod Why
+pub mod Says
 pub mod Window

@@ -1,4 +1,6 @@
 // The search for the first place of an image that stands.
+pub mod ask;
+
 ghost use mathlib.Core.Path.{_≡_};
 ghost use mathlib.Core.Bool.{true};
 ghost use Prim.Native.Nat.{ℕ, _+_, _-_, _*_, _/_, _%_, _^_, _<_, _≤_};
@@ -13,6 +15,17 @@ ghost use Rattle.align.specs.Window.{Marks, SignalIn, Signals, Pairs, No
 pub enum Found {
     At { place: usize, k: usize },
     Nothing,
+}
+
+// what is said of a place: it stands, with its least k; or the first condition that fails, of a wrong word with the
+// place of its first wrong bit; or the call is refused
+pub enum Why {
+    NoneFails { k: usize },
+    FirstWord { bit: usize },
+    Bit2,
+    SecondWord { bit: usize },
+    NoPair,
+    Refused { number: u64 },
 }
 
 // basic alignment, left at the first thing that is wrong
