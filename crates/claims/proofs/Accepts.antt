@@ -13,7 +13,9 @@ use Rattle.base.proofs.AnswerLaws.{first-tells}
 use Rattle.base.proofs.TabLaws.{at-all}
 use Rattle.e1.specs.Payload.{multiframes, sized}
 use Rattle.align.specs.Place.{Standing, firstStanding}
+use Rattle.align.specs.Why.{whyRefusal}
 use Rattle.align.proofs.Laws.{none-stands}
+use Rattle.align.proofs.WhyLaws.{asked}
 use Rattle.read.specs.Entry as reads
 use Rattle.read.specs.Entry.{placeIn, usedIn}
 use Rattle.read.proofs.EntryLaws as laws
@@ -25,7 +27,7 @@ use Rattle.exchange.specs.declared.State.{State}
 use Rattle.exchange.specs.Mapping.{mapRefusal, mapRefusals}
 use Rattle.exchange.specs.Machine.{kindOf, aOf, bOf, outside, locked, unstaged, hostRefusal, keyRefusal, keyRefusals}
 use Rattle.exchange.proofs.Laws.{accepted-passed, kind-named, slot-named, entry-named, reads-alone, within}
-use Rattle.claims.specs.Accepts.{ToRead, ToWrite, ToHost, ToMap, Accepts}
+use Rattle.claims.specs.Accepts.{ToRead, ToAsk, ToWrite, ToHost, ToMap, Accepts}
 
 -- which lengths a payload may have
 sized-is : (l : ℕ) → sized l ≡ true ↔ (n : ℕ) × (1 ≤ n) × (n ≤ 16) × (l ≡ 496 * n)
@@ -62,6 +64,12 @@ read-is s a b = (there, λ t. back t (firstStanding s) refl)
         laws.accepts s a b (t .good) w e
         (rw (le-ltb a (496 * usedIn s) (t .payload), le-ltb b (16 * usedIn s) (t .slot0)))
     back t none e = absurd (none-stands s .0 e (t .p) (t .k) (t .stands))
+
+pub why-is : (s : List ℕ) (p : ℕ) → whyRefusal s p ≡ 0 ↔ ToAsk s p
+why-is s p = (
+  λ e. let a = asked s p .0 e in record { good = record { long = a .0; short = a .1 }; room = a .2 },
+  λ t. asked s p .1 (t .good .long, t .good .short, t .room),
+)
 
 write-is : (p o : List ℕ) (c m : ℕ) → writes.refusal p o c m ≡ 0 ↔ ToWrite p o c m
 unfolding writes.refusal overheadFits
@@ -174,4 +182,4 @@ map-is payload out = (there, back)
         )
 
 pub accepts : Accepts
-accepts = record { read = read-is; write = write-is; host = host-is; key = key-is; map = map-is }
+accepts = record { read = read-is; why = why-is; write = write-is; host = host-is; key = key-is; map = map-is }

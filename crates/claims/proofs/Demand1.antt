@@ -9,6 +9,8 @@ use lib.Seq.{drop-at}
 use Rattle.base.specs.Answer.{accepted}
 use Rattle.base.proofs.AnswerLaws.{accepted-so, first-listed}
 use Rattle.e1.specs.Payload.{multiframes}
+use Rattle.align.specs.Why.{whyRefusals, whyRefusal}
+use Rattle.align.proofs.WhyLaws.{why-number, why-refused}
 use Rattle.read.specs.Entry as reads
 use Rattle.read.specs.Entry.{startIn, usedIn}
 use Rattle.read.specs.Reading.{payloadOf, slot0Of}
@@ -39,15 +41,17 @@ unfolding hostRefusal hostAfter hostEntry between outside locked unstaged
 kind-3 s a b h l u = rw (le-leb 1 a l, le-leb a 31 u)
 
 pub demand-1 : Demand1
-unfolding reads.refusal reads.accept writes.refusal mapped afterCall
+unfolding whyRefusal reads.refusal reads.accept writes.refusal mapped afterCall
 demand-1 =
     record {
       read-number = λ s payload slot0 r payload' slot0' h.
           rw (read-number s payload slot0 r payload' slot0' h)
           (first-listed (reads.refusals s (length payload) (length slot0)));
+      why-number = λ s p. rw (why-number s p) (first-listed (whyRefusals s p));
       write-number = λ p o c out r out' h. rw (wrote-number h) (first-listed (writes.refusals p o c (length out)));
       call-number = laws.number-is-listed;
       read-refused = read-refused;
+      why-refused = λ s p n e. rw (why-refused s p n .1 (sym (why-number s p) ∙ e)) refl;
       write-refused = λ p o c out r out' n h e. wrote-refused n h e;
       call-refused = laws.refused-changes-nothing;
       read-kept = λ s payload slot0 r payload' slot0' h z.

@@ -218,7 +218,7 @@ module _ (p o : List ℕ) (c n : ℕ) (g : Inputs p o c n) where
                   ∙ writes.overhead-back g;
             }
 
-none-so : (s payload slot0 : List ℕ) (r : Reading) (payload' slot0' : List ℕ) → GoodLength s
+pub none-so : (s payload slot0 : List ℕ) (r : Reading) (payload' slot0' : List ℕ) → GoodLength s
     → Read s payload slot0 r payload' slot0' → r .number ≡ 3 ↔ ((p k : ℕ) → Stands s p k → ⊥)
 none-so s payload slot0 r payload' slot0' good h =
     let e = read-number s payload slot0 r payload' slot0' h in

@@ -7,6 +7,7 @@ pub mod Demand1
 pub mod Demand2
 pub mod Demand3
 pub mod Accepts
+pub mod Reasons
 pub mod Interface
 pub mod Single
 pub mod Bench

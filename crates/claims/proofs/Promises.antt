@@ -5,6 +5,7 @@ use Rattle.claims.proofs.Demand2.{demand-2}
 use Rattle.claims.proofs.Demand3.{demand-3}
 use Rattle.claims.proofs.Counts.{counts}
 use Rattle.claims.proofs.Accepts.{accepts}
+use Rattle.claims.proofs.Reasons.{reasons}
 use Rattle.claims.proofs.Interface.{interface}
 use Rattle.claims.proofs.Single.{single}
 use Rattle.claims.proofs.Bench.{bench}
@@ -17,6 +18,7 @@ promises =
       demand-3 = demand-3;
       counts = counts;
       accepts = accepts;
+      reasons = reasons;
       interface = interface;
       single = single;
       bench = bench;

@@ -1,11 +1,12 @@
 -- Which inputs each entry accepts, both ways (KIT §8).
-use Prim.Native.Nat.{ℕ, _*_, _≤_, _<_}
+use Prim.Native.Nat.{ℕ, _+_, _*_, _≤_, _<_}
 use mathlib.Core.Path.{_≡_}
 use mathlib.Core.Bool.{true}
 use mathlib.Core.List.{List}
 use mathlib.Core.Logic.{_↔_, _⊎_}
 use lib.ListN.{length, getD}
 use Rattle.align.specs.Stands.{Stands}
+use Rattle.align.specs.Why.{whyRefusal}
 use Rattle.read.specs.Entry.{GoodLength, usedIn}
 use Rattle.read.specs.Entry as reads
 use Rattle.write.specs.Entry.{overheadLimit}
@@ -22,6 +23,11 @@ pub record ToRead (s : List ℕ) (a b : ℕ) : Type 0 where
   pub stands : Stands s p k
   pub payload : 496 * usedIn s ≤ a
   pub slot0 : 16 * usedIn s ≤ b
+
+-- an image s, and a place p of it that is asked about
+pub record ToAsk (s : List ℕ) (p : ℕ) : Type 0 where
+  pub good : GoodLength s
+  pub room : p + 16384 ≤ 8 * length s
 
 -- a payload p, an overhead o and a check c, with m octets of room
 pub record ToWrite (p o : List ℕ) (c m : ℕ) : Type 0 where
@@ -55,6 +61,7 @@ pub record ToMap (payload out : List ℕ) : Type 0 where
 -- the number is 0 exactly for these; a boundary is never refused
 pub record Accepts : Type 0 where
   pub read : (s : List ℕ) (a b : ℕ) → reads.refusal s a b ≡ 0 ↔ ToRead s a b
+  pub why : (s : List ℕ) (p : ℕ) → whyRefusal s p ≡ 0 ↔ ToAsk s p
   pub write : (p o : List ℕ) (c m : ℕ) → writes.refusal p o c m ≡ 0 ↔ ToWrite p o c m
   pub host : (s : State) (r : List ℕ) → hostRefusal s r ≡ 0 ↔ ToHost s r
   pub key : (position : ℕ) → keyRefusal position ≡ 0 ↔ (position ≡ 0) ⊎ (position ≡ 1)

@@ -7,6 +7,7 @@ use mathlib.Core.List.{List, [], _∷_}
 use lib.ListN.{length, getD, take, drop}
 use Rattle.base.specs.Answer.{among}
 use Rattle.e1.specs.Payload.{multiframes}
+use Rattle.align.specs.Why.{why, whyValues, whyNumber}
 use Rattle.read.specs.Entry.{Read}
 use Rattle.read.specs.Entry as reads
 use Rattle.read.specs.declared.Reading.{Reading}
@@ -23,6 +24,7 @@ pub record Demand1 : Type 0 where
   -- it answers, or refuses by a number from its list of the table; the calls on a state have theirs in `numbersOf`
   pub read-number : (s payload slot0 : List ℕ) (r : Reading) (payload' slot0' : List ℕ)
       → Read s payload slot0 r payload' slot0' → among (r .number) (0 ∷ 1 ∷ 2 ∷ 3 ∷ 4 ∷ []) ≡ true
+  pub why-number : (s : List ℕ) (p : ℕ) → among (whyNumber (why s p)) (0 ∷ 1 ∷ 2 ∷ 14 ∷ []) ≡ true
   pub write-number : (p o : List ℕ) (c : ℕ) (out : List ℕ) (r : Written) (out' : List ℕ)
       → Wrote p o c out r out' → among (r .number) (0 ∷ 5 ∷ 6 ∷ 7 ∷ 4 ∷ []) ≡ true
   pub call-number : (s : State) (c : Call) → among (answer s c .number) (0 ∷ numbersOf c) ≡ true
@@ -30,6 +32,8 @@ pub record Demand1 : Type 0 where
   pub read-refused : (s payload slot0 : List ℕ) (r : Reading) (payload' slot0' : List ℕ) (n : ℕ)
       → Read s payload slot0 r payload' slot0' → r .number ≡ suc n
       → (r ≡ reads.refuse (suc n)) × (payload' ≡ payload) × (slot0' ≡ slot0)
+  pub why-refused : (s : List ℕ) (p n : ℕ) → whyNumber (why s p) ≡ suc n
+      → whyValues (why s p) ≡ suc n ∷ 0 ∷ 0 ∷ 0 ∷ []
   pub write-refused : (p o : List ℕ) (c : ℕ) (out : List ℕ) (r : Written) (out' : List ℕ) (n : ℕ)
       → Wrote p o c out r out' → r .number ≡ suc n → (r ≡ writes.refuse (suc n)) × (out' ≡ out)
   pub call-refused : (s : State) (c : Call) → (answer s c .number ≡ 0 → ⊥)

@@ -3,6 +3,7 @@ pub mod Demand2
 pub mod Demand3
 pub mod Counts
 pub mod Accepts
+pub mod Reasons
 pub mod Interface
 pub mod Single
 pub mod Bench

@@ -4,6 +4,7 @@ use Rattle.claims.specs.Demand2.{Demand2}
 use Rattle.claims.specs.Demand3.{Demand3}
 use Rattle.claims.specs.Counts.{Counts}
 use Rattle.claims.specs.Accepts.{Accepts}
+use Rattle.claims.specs.Reasons.{Reasons}
 use Rattle.claims.specs.Interface.{Interface}
 use Rattle.claims.specs.Single.{Single}
 use Rattle.claims.specs.Bench.{Bench}
@@ -14,6 +15,7 @@ pub record Promises : Type 0 where
   pub demand-3 : Demand3
   pub counts : Counts
   pub accepts : Accepts
+  pub reasons : Reasons
   pub interface : Interface
   pub single : Single
   pub bench : Bench

@@ -1,8 +1,10 @@
 -- Nothing is left open: any two results that an entry's contract admits are equal, with what they leave in every lent
--- octet. The entries are those of `read`, `write` and `exchange`, and the seven functions of the C interface over them.
+-- octet. The entries are those of `align`, `read`, `write` and `exchange`, and the eight functions of the C interface over them.
 use Prim.Native.Nat.{ℕ}
 use mathlib.Core.Path.{_≡_}
 use mathlib.Core.List.{List}
+use Rattle.align.specs.Why.{why}
+use Rattle.align.specs.declared.Why.{Why}
 use Rattle.read.specs.Entry.{Read}
 use Rattle.read.specs.declared.Reading.{Reading}
 use Rattle.write.specs.Entry.{Wrote}
@@ -11,11 +13,12 @@ use Rattle.exchange.specs.Mapping.{Mapped}
 use Rattle.exchange.specs.Machine.{startState, hosted, keyed, crossed}
 use Rattle.exchange.specs.declared.State.{State}
 use Rattle.exchange.specs.declared.Answered.{Answered}
-use Rattle.jikhvanto.specs.Calls.{JkRead, JkWrite, JkStart, JkHost, JkKey, JkBoundary, JkMap}
+use Rattle.jikhvanto.specs.Calls.{JkRead, JkWhy, JkWrite, JkStart, JkHost, JkKey, JkBoundary, JkMap}
 
 pub record Single : Type 0 where
   pub read : (s payload slot0 : List ℕ) (r r' : Reading) (p p' o o' : List ℕ)
       → Read s payload slot0 r p o → Read s payload slot0 r' p' o' → (r ≡ r') × (p ≡ p') × (o ≡ o')
+  pub why : (s : List ℕ) (p : ℕ) (r r' : Why) → r ≡ why s p → r' ≡ why s p → r ≡ r'
   pub write : (p o : List ℕ) (c : ℕ) (out : List ℕ) (r r' : Written) (x x' : List ℕ)
       → Wrote p o c out r x → Wrote p o c out r' x' → (r ≡ r') × (x ≡ x')
   pub map-payload : (map payload out : List ℕ) (r r' : ℕ) (x x' : List ℕ)
@@ -27,6 +30,8 @@ pub record Single : Type 0 where
   pub jk-read : (image payload slot0 : List ℕ) (r r' : ℕ) (p p' o o' a a' : List ℕ)
       → JkRead image payload slot0 r p o a → JkRead image payload slot0 r' p' o' a'
       → (r ≡ r') × (p ≡ p') × (o ≡ o') × (a ≡ a')
+  pub jk-why : (image : List ℕ) (place r r' : ℕ) (a a' : List ℕ) → JkWhy image place r a → JkWhy image place r' a'
+      → (r ≡ r') × (a ≡ a')
   pub jk-write : (payload overhead : List ℕ) (check : ℕ) (out : List ℕ) (r r' : ℕ) (x x' a a' : List ℕ)
       → JkWrite payload overhead check out r x a → JkWrite payload overhead check out r' x' a'
       → (r ≡ r') × (x ≡ x') × (a ≡ a')

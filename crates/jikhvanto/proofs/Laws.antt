@@ -15,7 +15,7 @@ use Rattle.exchange.specs.Machine.{hosted}
 use Rattle.read.proofs.EntryLaws.{read-single}
 use Rattle.write.proofs.Calls.{wrote-single}
 use Rattle.jikhvanto.specs.Octets.{mapAt, stateOf, flagsOf, octetsOf, pairPlaces}
-use Rattle.jikhvanto.specs.Calls.{JkRead, JkWrite, JkStart, JkHost, JkKey, JkBoundary, JkMap}
+use Rattle.jikhvanto.specs.Calls.{JkRead, JkWhy, JkWrite, JkStart, JkHost, JkKey, JkBoundary, JkMap}
 
 -- the maps have 32 octets each, as in every state that is unpacked
 abbrev pub Maps : State → Type 0
@@ -66,6 +66,10 @@ pub jk-read-single : {image payload slot0 : List ℕ} {r r₁ : ℕ} {p p₁ o o
 jk-read-single h k =
     let e = read-single _ _ _ _ _ _ _ _ _ (h .its-outputs) (k .its-outputs) in
     (h .its-number ∙ sym (k .its-number), e .1, e .2, h .its-answer ∙ sym (k .its-answer))
+
+pub jk-why-single : {image : List ℕ} {place r r₁ : ℕ} {a a₁ : List ℕ} → JkWhy image place r a → JkWhy image place r₁ a₁
+    → (r ≡ r₁) × (a ≡ a₁)
+jk-why-single h k = (h .its-number ∙ sym (k .its-number), h .its-answer ∙ sym (k .its-answer))
 
 pub jk-write-single : {payload overhead : List ℕ} {check : ℕ} {out : List ℕ} {r r₁ : ℕ} {o o₁ a a₁ : List ℕ}
     → JkWrite payload overhead check out r o a → JkWrite payload overhead check out r₁ o₁ a₁ → (r ≡ r₁) × (o ≡ o₁) × (a ≡ a₁)

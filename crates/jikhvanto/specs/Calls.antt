@@ -4,16 +4,22 @@ use Prim.Native.Nat.{ℕ}
 use mathlib.Core.Path.{_≡_}
 use mathlib.Core.List.{List}
 use lib.ListN.{length}
+use Rattle.align.specs.Why.{why, whyNumber}
 use Rattle.read.specs.Entry.{Read, reading}
 use Rattle.write.specs.Entry.{Wrote, writing}
 use Rattle.exchange.specs.Mapping.{Mapped}
 use Rattle.exchange.specs.Machine.{startState, hosted, keyed, crossed}
-use Rattle.jikhvanto.specs.Octets.{stateOf, octetsOf, stored, hostStored, readingPlaces, pairPlaces}
+use Rattle.jikhvanto.specs.Octets.{stateOf, octetsOf, stored, hostStored, readingPlaces, whyPlaces}
+use Rattle.jikhvanto.specs.Octets.{pairPlaces}
 
 pub record JkRead (image payload slot0 : List ℕ) (r : ℕ) (payload' slot0' answer' : List ℕ) : Type 0 where
   pub its-outputs : Read image payload slot0 (reading image (length payload) (length slot0)) payload' slot0'
   pub its-number : r ≡ reading image (length payload) (length slot0) .number
   pub its-answer : answer' ≡ readingPlaces (reading image (length payload) (length slot0))
+
+pub record JkWhy (image : List ℕ) (place r : ℕ) (answer' : List ℕ) : Type 0 where
+  pub its-number : r ≡ whyNumber (why image place)
+  pub its-answer : answer' ≡ whyPlaces (why image place)
 
 pub record JkWrite (payload overhead : List ℕ) (check : ℕ) (out : List ℕ) (r : ℕ) (out' answer' : List ℕ) : Type 0 where
   pub its-output : Wrote payload overhead check out (writing payload overhead check (length out)) out'

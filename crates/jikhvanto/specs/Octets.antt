@@ -6,6 +6,8 @@ use lib.ListN.{getD, take, drop, replicate}
 use mir.Val.{boolByte}
 use Rattle.base.specs.Choice.{if_then_else_}
 use Rattle.base.specs.Answer.{accepted}
+use Rattle.align.specs.Why.{whyValues}
+use Rattle.align.specs.declared.Why.{Why}
 use Rattle.exchange.specs.Machine.{kindOf, hosted}
 use Rattle.exchange.specs.declared.State.{State}
 use Rattle.exchange.specs.declared.Answered.{Answered}
@@ -53,6 +55,10 @@ readingPlaces r =
     answerOf
     (r .number ∷ r .place ∷ r .start ∷ r .whole ∷ r .used ∷ r .lost
     ∷ r .words ∷ r .compared ∷ r .errored ∷ r .farend ∷ r .wordbits ∷ [])
+
+-- what is said of a place
+unfoldable pub whyPlaces : Why → List ℕ
+whyPlaces w = answerOf (whyValues w)
 
 -- number and value to places 0 and 1: a check that was written, or an entry that a host record reads
 unfoldable pub pairPlaces : ℕ → ℕ → List ℕ

@@ -1,11 +1,15 @@
 // The C interface: each entry of the kit, over a state in lent octets and an answer in lent places.
 ghost use mathlib.Core.Path.{_≡_};
+ghost use mathlib.Core.List.{[], _∷_};
 ghost use Prim.Native.Nat.{_+_, _≤_};
 ghost use lib.ListN.{length};
 ghost use lib.Dec.{eqb};
+ghost use Rattle.align.specs.Why.{whyNumber};
 ghost use Rattle.exchange.specs.Machine.{kindOf};
-ghost use Rattle.jikhvanto.specs.Octets.{mapAt, stateOf, octetsOf, stored, readingPlaces, pairPlaces};
-ghost use Rattle.jikhvanto.specs.Calls.{JkRead, JkWrite, JkStart, JkHost, JkKey, JkBoundary, JkMap};
+ghost use Rattle.jikhvanto.specs.Octets.{mapAt, stateOf, octetsOf, stored, readingPlaces, whyPlaces};
+ghost use Rattle.jikhvanto.specs.Octets.{answerOf, pairPlaces};
+ghost use Rattle.jikhvanto.specs.Calls.{JkRead, JkWhy, JkWrite, JkStart, JkHost, JkKey, JkBoundary, JkMap};
+use align::Why;
 use exchange::Answered;
 use exchange::State;
 use read::Reading;
@@ -104,13 +108,37 @@ fn give_reading(r: Reading, answer: &mut [u64; 16])
     answer[10] = r.wordbits as u64;
 }
 
+// four numbers to places 0 to 3, and the first of them
+fn give_four(a: u64, b: u64, c: u64, d: u64, answer: &mut [u64; 16]) -> u64
+    ensures { λ r. ⌜ (r ≡ a) × (now (answer .exit) ≡ answerOf (a ∷ b ∷ c ∷ d ∷ [])) ⌝ }
+{
+    *answer = [0; 16];
+    answer[0] = a;
+    answer[1] = b;
+    answer[2] = c;
+    answer[3] = d;
+    a
+}
+
+// what is said of a place, in its places, and its number
+fn give_why(w: Why, answer: &mut [u64; 16]) -> u64
+    ensures { λ r. ⌜ (r ≡ whyNumber w) × (now (answer .exit) ≡ whyPlaces w) ⌝ }
+{
+    match w {
+        Why::NoneFails { k } => give_four(0, 0, k as u64, 0, answer),
+        Why::FirstWord { bit } => give_four(0, 1, 0, bit as u64, answer),
+        Why::Bit2 => give_four(0, 2, 0, 0, answer),
+        Why::SecondWord { bit } => give_four(0, 3, 0, bit as u64, answer),
+        Why::NoPair => give_four(0, 4, 0, 0, answer),
+        Why::Refused { number } => give_four(number, 0, 0, 0, answer),
+    }
+}
+
 // number and value to places 0 and 1
 fn give_pair(number: u64, value: u64, answer: &mut [u64; 16])
     ensures { λ _. ⌜ now (answer .exit) ≡ pairPlaces number value ⌝ }
 {
-    *answer = [0; 16];
-    answer[0] = number;
-    answer[1] = value;
+    give_four(number, value, 0, 0, answer);
 }
 
 // an image is read
@@ -127,6 +155,14 @@ pub extern "C" fn jk_read(
     let r = read::read(image, payload, slot0);
     give_reading(r, answer);
     r.number
+}
+
+// a place of an image is asked about
+#[no_mangle]
+pub extern "C" fn jk_why(image: &[u8], place: u64, answer: &mut [u64; 16]) -> u64
+    ensures { λ r. ⌜ JkWhy (now (image .entry)) place r (now (answer .exit)) ⌝ }
+{
+    give_why(align::ask::why(image, place), answer)
 }
 
 // multiframes are written
