@@ -1,5 +1,6 @@
 // The calls that steps make, each with the line that it prints.
 use crate::print::digest;
+use align::Why;
 use exchange::State;
 use given::Bench;
 use given::ROOM;
@@ -28,6 +29,8 @@ const KEY: usize = 16;
 const BOUNDARY: usize = 17;
 
 const MAP: usize = 18;
+
+const WHY: usize = 19;
 
 // what every octet of an output holds before a call
 const BEFORE: u8 = 170;
@@ -79,6 +82,33 @@ fn read(label: &[u8], image: [u8; 8193], bench: Bench) {
         &mut payload[0..p],
         &mut slot0[0..s],
     );
+}
+
+// what is said of a place
+fn show_why(label: &[u8], number: u64, condition: u64, k: usize, bit: usize) {
+    print(label);
+    print_number(b": ", number);
+    print_number(b" condition ", condition);
+    print_number(b" k ", k as u64);
+    print_number(b" bit ", bit as u64);
+    print(b"\n");
+}
+
+fn why_in(label: &[u8], image: &[u8], place: u64) {
+    match align::ask::why(image, place) {
+        Why::NoneFails { k } => show_why(label, 0, 0, k, 0),
+        Why::FirstWord { bit } => show_why(label, 0, 1, 0, bit),
+        Why::Bit2 => show_why(label, 0, 2, 0, 0),
+        Why::SecondWord { bit } => show_why(label, 0, 3, 0, bit),
+        Why::NoPair => show_why(label, 0, 4, 0, 0),
+        Why::Refused { number } => show_why(label, number, 0, 0, 0),
+    }
+}
+
+fn why(label: &[u8], image: [u8; 8193], bench: Bench, place: u64) {
+    let to = limited(bench.to, 8193);
+    let from = limited(bench.from, to);
+    why_in(label, &image[from..to], place);
 }
 
 // what a write answers, and the digest of its output
@@ -208,6 +238,10 @@ pub fn call(
         BOUNDARY => tell(label, step, exchange::boundary(state)),
         MAP => {
             map(label, step, state, payload, row);
+            state
+        }
+        WHY => {
+            why(label, image, bench, row[0]);
             state
         }
         _ => {

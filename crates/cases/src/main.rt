@@ -72,7 +72,7 @@ fn cases(s: &[u8]) {
 
 fn main() {
     let mut room = io::large_buffer();
-    let taken = program::read(b"cases", &mut room);
+    let taken = program::read(b"cases", 1, &mut room);
     if taken.ok {
         let n = taken.n;
         cases(&room[..n]);

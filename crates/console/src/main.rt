@@ -114,7 +114,7 @@ fn dialogue(fd: i32, name: &[u8]) {
 
 fn main() {
     let mut path = io::buffer();
-    let input = program::open(b"console", &mut path);
+    let input = program::open(b"console", 1, &mut path);
     if input.fd >= 0 {
         let n = input.n;
         dialogue(input.fd, &path[..n]);

@@ -12,7 +12,8 @@ path{stroke:#1f2a33;stroke-width:1.4}
 .e0.c1 rect{fill:#e69f00;stroke:#1f2a33;stroke-width:1.6}.a1 rect{stroke:#9c3500;stroke-width:2.4}
 .wrong rect,.right0 .word rect,.right0 .signal rect{fill:#9c3500;stroke:#9c3500}.cross{display:none}
 .wrong text,.right0 .word text,.right0 .signal text{fill:#fff;font-weight:bold}.right0 .cross{display:inline}
-.many{font-size:9px}
+.many{font-size:9px}.asked path{stroke:#1d5f8a;stroke-width:2.4}.asked text{fill:#1d5f8a;font-weight:bold}
+.holds{fill:none;stroke:#1d5f8a;stroke-width:2.4}
 .clean rect{stroke:#2f6f86}.clean text{fill:#2f6f86}.used0 rect,.e0.c0 rect,.dashed rect{stroke-dasharray:3 2}
 </style>
 ",

@@ -1,4 +1,5 @@
 // Pictures as SVG: a line, and the live map. Each answers whether all of it was written.
+mod asked;
 mod crossing;
 mod frames;
 mod legend;
@@ -6,6 +7,8 @@ mod multiframes;
 mod report;
 mod ruler;
 
+pub use asked::Asked;
+pub use asked::said;
 pub use crossing::map;
 use pen::Pen;
 use read::Reading;
@@ -25,7 +28,7 @@ fn drawn(r: Reading) -> usize
 }
 
 // all but the multiframes
-fn page_of(pen: Pen, octets: usize, r: Reading) -> Pen
+fn page_of(pen: Pen, octets: usize, r: Reading, asked: Asked) -> Pen
     requires { ⌜ Shown octets r ⌝ }
 {
     let below = 316 + 68 * drawn(r);
@@ -33,16 +36,17 @@ fn page_of(pen: Pen, octets: usize, r: Reading) -> Pen
         b"<text class='title' x='24' y='40'>A line of % octets</text>\n",
         &[octets],
     );
-    let pen = ruler::ruler(report::report(pen, r), octets, r);
+    let pen = ruler::ruler(report::report(pen, r), octets, r, asked);
     legend::legend(pen, below)
 }
 
-// a line, with what `read` read of it
-pub fn line(fd: i32, image: &[u8], r: Reading, slot0: &[u8; 256]) -> bool
+// a line, with what `read` read of it, and with a place that is asked about
+pub fn line(fd: i32, image: &[u8], r: Reading, slot0: &[u8; 256], asked: Asked) -> bool
     requires { ⌜ Shown (length (now image)) r ⌝ }
 {
-    let pen = page_of(Pen::new(fd), image.len(), r);
+    let pen = page_of(Pen::new(fd), image.len(), r, asked);
     let pen = multiframes::multiframes(pen, image, slot0, r);
+    let pen = asked::outlined(pen, r, asked);
     let pen = multiframes::loss(pen, r.used, r.lost).text(b"</svg>\n");
     pen.written
 }

@@ -1,11 +1,13 @@
 // The whole line as one bar: where alignment is found, the multiframes, and where alignment is lost.
+use crate::asked;
+use crate::asked::Asked;
 use pen::Pen;
 use read::Reading;
 ghost use Prim.Native.Nat.{_<_, _≤_};
 ghost use Rattle.drawing.specs.Shown.{Shown};
 
 // how far along the bar a place of a line of so many octets stands
-fn along(octets: usize, place: usize) -> usize
+pub fn along(octets: usize, place: usize) -> usize
     requires { ⌜ (2048 ≤ octets) × (octets ≤ 8192) × (place ≤ 131072) ⌝ }
     ensures { λ r. ⌜ r < 4294967296 ⌝ }
 {
@@ -65,11 +67,12 @@ fn found(pen: Pen, octets: usize, r: Reading) -> Pen
     )
 }
 
-pub fn ruler(pen: Pen, octets: usize, r: Reading) -> Pen
+pub fn ruler(pen: Pen, octets: usize, r: Reading, a: Asked) -> Pen
     requires { ⌜ Shown octets r ⌝ }
 {
     let pen = pen.text(
         b"<g transform='translate(24 168)'><rect class='rest' width='1032' height='24'/>\n",
     );
-    loss(found(multiframes(pen, octets, r), octets, r), octets, r).text(b"</g>\n")
+    let pen = loss(found(multiframes(pen, octets, r), octets, r), octets, r);
+    asked::marked(pen, octets, a).text(b"</g>\n")
 }

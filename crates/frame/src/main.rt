@@ -26,7 +26,7 @@ fn frame(octets: &[u8])
 // 16 multiframes take 8,064 octets, so one octet more is enough to know that there are more.
 fn main() {
     let mut input = [0u8; 8065];
-    let taken = program::read(b"frame", &mut input);
+    let taken = program::read(b"frame", 1, &mut input);
     if taken.ok {
         let n = taken.n;
         frame(&input[..n]);

@@ -3,7 +3,7 @@ use program::text::limited;
 ghost use Prim.Native.Nat.{_<_, _≤_};
 
 // The steps of a case, by the lines of this table. Up to ROOM they make something, here; those behind it call.
-pub const STEPS: [u8; 108] = *b"\
+pub const STEPS: [u8; 112] = *b"\
     payload\n\
     overhead\n\
     alike\n\
@@ -22,7 +22,8 @@ pub const STEPS: [u8; 108] = *b"\
     host\n\
     key\n\
     boundary\n\
-    map\n";
+    map\n\
+    why\n";
 
 const PAYLOAD: usize = 0;
 
@@ -46,7 +47,7 @@ const PART: usize = 9;
 
 pub const ROOM: usize = 10;
 
-pub const UNKNOWN: usize = 19;
+pub const UNKNOWN: usize = 20;
 
 // A payload and an overhead, of one multiframe more than a call takes; an image; which of its octets are read, and into
 // how much room.

@@ -1,8 +1,12 @@
-// Reads a line, from the file that the argument names or from standard input, and writes its picture, an SVG.
+// Reads a line, from the file that the argument names or from standard input, and writes its picture, an SVG. Behind
+// `--why`, before the file, comes a place to mark.
+use align::Why;
+use drawing::Asked;
 use libc::STDOUT_FILENO;
+use program::text::Spelt;
 
 // the picture, or, on standard error, why there is none
-fn picture(image: &[u8]) {
+fn picture(image: &[u8], asked: Asked) {
     let mut payload = [0u8; 7936];
     let mut slot0 = [0u8; 256];
     let r = read::read(image, &mut payload, &mut slot0);
@@ -10,15 +14,52 @@ fn picture(image: &[u8]) {
         program::refused(b"picture", r.number);
         return;
     }
-    program::written(b"picture", drawing::line(STDOUT_FILENO, image, r, &slot0));
+    program::written(
+        b"picture",
+        drawing::line(STDOUT_FILENO, image, r, &slot0, asked),
+    );
+}
+
+// the same with a place marked
+fn marked(image: &[u8], place: u64) {
+    let why = align::ask::why(image, place);
+    if let Why::Refused { number } = why {
+        program::refused(b"picture", number);
+        return;
+    }
+    picture(
+        image,
+        Asked::Place {
+            place: place as usize,
+            why,
+        },
+    );
+}
+
+// the first argument is `--why`
+fn is_asked() -> bool {
+    let mut word = io::buffer();
+    let n = os::arg(1, &mut word);
+    check::same(&word[..n], b"--why")
 }
 
 // No line over 8,192 octets is read, so one octet more is enough to know that it is longer.
 fn main() {
     let mut image = [0u8; 8193];
-    let taken = program::read(b"picture", &mut image);
+    if is_asked() {
+        let Spelt::Number(place) = program::place(b"picture", 2) else {
+            return;
+        };
+        let taken = program::read(b"picture", 3, &mut image);
+        if taken.ok {
+            let n = taken.n;
+            marked(&image[..n], place);
+        }
+        return;
+    }
+    let taken = program::read(b"picture", 1, &mut image);
     if taken.ok {
         let n = taken.n;
-        picture(&image[..n]);
+        picture(&image[..n], Asked::Nothing);
     }
 }

@@ -6,6 +6,8 @@ use libc::STDERR_FILENO;
 use libc::STDIN_FILENO;
 use libc::STDOUT_FILENO;
 pub use refusal::print_refusal;
+use text::Spelt;
+use text::numbers;
 ghost use Prim.Native.Nat.{_≤_};
 ghost use lib.ListN.{length};
 ghost use Rattle.io.specs.Counts.{Counts};
@@ -45,6 +47,27 @@ pub fn refused(program: &[u8], number: u64) {
     io::write_all(STDERR_FILENO, b"\n");
 }
 
+// a line on standard output with the number of a refusal, and on standard error the number in words
+pub fn answer_refused(program: &[u8], number: u64) {
+    written(program, print_number(b"refused ", number) & print(b"\n"));
+    refused(program, number);
+}
+
+// the place that argument `at` names; where it names none, that is said
+pub fn place(program: &[u8], at: usize) -> Spelt {
+    let mut word = io::buffer();
+    let n = os::arg(at, &mut word);
+    let mut row = [0; 8];
+    if numbers(&word[..n], &mut row) != 1 {
+        say(
+            program,
+            b"the place to ask about is missing, or is not a decimal number",
+        );
+        return Spelt::Nothing;
+    }
+    Spelt::Number(row[0])
+}
+
 // the end of a program's output, which was written or not
 pub fn written(program: &[u8], ok: bool) {
     if !ok {
@@ -58,23 +81,25 @@ pub struct Input {
     pub n: usize,
 }
 
-// The file that the one argument names, or standard input where there is none. Where it cannot be opened, that is said.
-pub fn open(program: &[u8], path: &mut [u8]) -> Input
+// The file that argument `at` names, or standard input where there is none. It is the last argument. Where it cannot be
+// opened, that is said.
+pub fn open(program: &[u8], at: usize, path: &mut [u8]) -> Input
     requires { ⌜ 14 ≤ length (now path) ⌝ }
     ensures { λ r. ⌜ Counts (r .n) (now (path .exit)) ⌝ }
 {
-    if os::arg_count() < 2 {
+    let given = os::arg_count();
+    if given <= at {
         let n = bytes::copy(b"standard input", path);
         return Input {
             fd: STDIN_FILENO,
             n: n,
         };
     }
-    let n = os::arg(1, path);
-    if os::arg_count() > 2 {
+    let n = os::arg(at, path);
+    if given - at > 1 {
         say(
             program,
-            b"more than one argument: it reads one file, or standard input",
+            b"too many arguments: it reads one file, or standard input",
         );
         return Input { fd: -1, n: n };
     }
@@ -110,12 +135,13 @@ fn take(fd: i32, room: &mut [u8]) -> Taken
     Taken { n: n, ok: true }
 }
 
-// The program's input as far as there is room for it. Where it cannot be read, that is said.
-pub fn read(program: &[u8], room: &mut [u8]) -> Taken
+// The program's input, of which argument `at` is the name, as far as there is room for it. Where it cannot be read, that
+// is said.
+pub fn read(program: &[u8], at: usize, room: &mut [u8]) -> Taken
     ensures { λ r. ⌜ Counts (r .n) (now (room .exit)) ⌝ }
 {
     let mut path = io::buffer();
-    let input = open(program, &mut path);
+    let input = open(program, at, &mut path);
     if input.fd < 0 {
         return Taken { n: 0, ok: false };
     }

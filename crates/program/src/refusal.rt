@@ -17,7 +17,8 @@ pub fn print_refusal(fd: i32, number: u64) -> bool {
         an output slot is 1 to 31, and an input slot 1 to 31, or 0 for idle\n\
         the key is off; stage, commit and drop need it on\n\
         nothing is staged; commit and drop need a staged map\n\
-        the key's position is 0 (off) or 1 (on)",
+        the key's position is 0 (off) or 1 (on)\n\
+        fewer than 16,384 bits are left from that place to the line's end",
         number,
     )
 }

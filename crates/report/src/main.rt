@@ -36,17 +36,13 @@ fn report(image: &[u8]) {
         program::written(b"report", print_report(r));
         return;
     }
-    program::written(
-        b"report",
-        print_number(b"refused ", r.number) & print(b"\n"),
-    );
-    program::refused(b"report", r.number);
+    program::answer_refused(b"report", r.number);
 }
 
 // No line over 8,192 octets is read, so one octet more is enough to know that it is longer.
 fn main() {
     let mut image = [0u8; 8193];
-    let taken = program::read(b"report", &mut image);
+    let taken = program::read(b"report", 1, &mut image);
     if taken.ok {
         let n = taken.n;
         report(&image[..n]);
