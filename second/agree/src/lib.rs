@@ -1,11 +1,13 @@
-//! What the agreement tests share: the same reads and writes given to the
-//! oracle and to another form, whose answers and octets are held together.
+//! What the agreement tests share: the same reads, places and writes given to
+//! the oracle and to another form, whose answers and octets are held together.
 //! Another seed: `SEED=7 cargo test --release`.
 
 mod reads;
+mod whys;
 mod writes;
 
 pub use reads::reads;
+pub use whys::whys;
 pub use writes::{write_both, writes};
 
 use std::io::Write;

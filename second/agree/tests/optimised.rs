@@ -14,6 +14,11 @@ fn reads() {
 }
 
 #[test]
+fn whys() {
+    agree::whys("the optimised form", optimised::why);
+}
+
+#[test]
 fn writes() {
     agree::writes("the optimised form", optimised::write);
 }

@@ -1,13 +1,14 @@
 //! The oracle held to the bench cases of the paper, by their numbers, and to
-//! what the paper promises of `wordbits`.
+//! what the paper promises of `wordbits` and of `why`.
 
 use agree::seed;
-use given::making::{flip, shifted, wrong_words};
+use given::making::{flip, shifted, wrong_signals, wrong_words};
 use given::Random;
 use oracle::check::check;
-use oracle::line::{bits, number, wrong_bits, BLOCK, FRAME, WORD};
+use oracle::line::{bits, number, wrong_bits, BLOCK, FRAME, SIGNAL, WORD};
+use oracle::why::with_room;
 use oracle::writing::odd_slot0;
-use oracle::{read, report, write, Answer, Exchange, Reading};
+use oracle::{read, report, said, why, write, Answer, Exchange, Reading, Why};
 
 const IMAGES: u64 = 4_000;
 
@@ -183,6 +184,25 @@ fn case_13_wrong_bits() {
 }
 
 #[test]
+fn case_14_why() {
+    let hit = |places: &[usize]| {
+        let mut image = line(4);
+        for place in places {
+            flip(&mut image, *place);
+        }
+        image
+    };
+    assert_eq!(said(&line(4), 0), "stands, k 0\n");
+    assert_eq!(said(&hit(&[5, 7]), 0), "first word wrong at bit 5\n");
+    assert_eq!(said(&hit(&[257, 514]), 0), "bit 257 after it is 0\n");
+    assert_eq!(said(&hit(&[514]), 0), "second word wrong at bit 514\n");
+    let mut image = line(4);
+    wrong_signals(&mut image, &[1, 2, 3]);
+    assert_eq!(said(&image, 0), "no pair of signals\n");
+    assert_eq!(said(&line(4), 1), "refused 14\n");
+}
+
+#[test]
 fn wrong_bits_of_every_slot() {
     for slot in 0..=255_u8 {
         let ones = ((slot ^ 0b001_1011) & 0b111_1111).count_ones();
@@ -226,6 +246,106 @@ fn turn_over_a_right_bit(r: &mut Random, image: &mut [u8], reading: &Reading) ->
         flip(image, place);
     }
     right
+}
+
+fn refused(number: u64) -> Why {
+    Why {
+        number,
+        ..Why::default()
+    }
+}
+
+/// The place that is read from is the first of which `why` says that it stands,
+/// and there is none where there is no reading.
+#[test]
+fn why_and_read() {
+    let seed = seed(&format!("{IMAGES} images, every place asked about"));
+    let (mut none, mut late) = (0, 0);
+    for item in 0..IMAGES {
+        let image = given::image(&mut Random::new(seed, item));
+        let reading = read_all(&image);
+        if [1, 2].contains(&reading.number) {
+            assert_eq!(why(&image, 0), refused(reading.number), "image {item}");
+            continue;
+        }
+        let bits = bits(&image);
+        let stands = |p: &usize| with_room(&bits, *p).condition == 0;
+        match (0..=bits.len() - 16_384).find(stands) {
+            Some(p) => {
+                let said = why(&image, p as u64);
+                assert_eq!(said, with_room(&bits, p), "image {item}");
+                assert_eq!((reading.number, reading.place), (0, p as u64));
+                assert_eq!(reading.start, reading.place + 512 * said.k);
+                late += u64::from(p > 64);
+            }
+            None => {
+                assert_eq!(reading, refusal(3), "image {item}");
+                none += 1;
+            }
+        }
+    }
+    assert!(none >= IMAGES / 20 && late >= IMAGES / 20, "{none}, {late}");
+}
+
+/// Of the five answers one holds, and it is the one that is given.
+#[test]
+fn why_in_the_words_of_the_paper() {
+    let seed = seed(&format!("{IMAGES} images, what is said of 6 places"));
+    let mut conditions = [0; 5];
+    for item in 0..IMAGES {
+        let given = given::asked(&mut Random::new(seed, item));
+        let bits = bits(&given.image);
+        for place in given.places {
+            let room = u128::from(place) + 16_384 <= bits.len() as u128;
+            let number = match given.image.len() {
+                0..=2_047 => 1,
+                2_048..=8_192 if room => 0,
+                2_048..=8_192 => 14,
+                _ => 2,
+            };
+            let said = why(&given.image, place);
+            assert_eq!(said.number, number, "image {item}, place {place}");
+            if number == 0 {
+                holds(&bits, place as usize, &said);
+                conditions[said.condition as usize] += 1;
+            } else {
+                assert_eq!(said, refused(number), "image {item}, place {place}");
+            }
+        }
+    }
+    assert!(conditions.iter().all(|&n| n >= 200), "{conditions:?}");
+}
+
+/// What is said of the place p, held to its bits.
+fn holds(bits: &[u8], p: usize, said: &Why) {
+    assert!(bits.len() - p >= 16_384);
+    let (first, second) = (&bits[p + 1..p + 8], &bits[p + 513..p + 520]);
+    let aligned = [first == WORD, bits[p + 257] == 1, second == WORD];
+    let marks: Vec<u8> = (0..32).map(|k| bits[p + 256 + 512 * k]).collect();
+    let signal = |k: usize| marks.get(k..k + 6) == Some(&SIGNAL);
+    let pair = |k: &usize| signal(*k) && [8, 16, 24].iter().any(|later| signal(k + later));
+    let k = (0..32).find(pair);
+
+    let five = [
+        aligned == [true; 3] && k.is_some(),
+        !aligned[0],
+        aligned[..2] == [true, false],
+        aligned == [true, true, false],
+        aligned == [true; 3] && k.is_none(),
+    ];
+    let held: Vec<usize> = (0..5).filter(|i| five[*i]).collect();
+    assert_eq!(held, [said.condition as usize], "place {p}");
+
+    let least = if said.condition == 0 { k.unwrap() } else { 0 };
+    assert_eq!(said.k, least as u64, "place {p}");
+    let word = match said.condition {
+        1 => p + 1,
+        3 => p + 513,
+        _ => return assert_eq!(said.bit, 0, "place {p}"),
+    };
+    let right = said.bit as usize - word;
+    assert_eq!(bits[word..word + right], WORD[..right], "place {p}");
+    assert_ne!(bits[word + right], WORD[right], "place {p}");
 }
 
 #[test]

@@ -2,9 +2,9 @@
 //! copy of the octets that the call hands over. The form under test, where
 //! there is one, comes first, and the ratios are its own.
 
-use given::making::{densest, false_starts, shifted};
+use given::making::{densest, false_starts, shifted, wrong_signals};
 use given::Random;
-use oracle::{read, write, Exchange};
+use oracle::{read, why, write, Exchange};
 use std::arch::asm;
 use std::env;
 use std::process::ExitCode;
@@ -14,6 +14,7 @@ const ROUNDS: usize = 100;
 const ROUND: Duration = Duration::from_millis(1);
 
 type Read = Box<dyn Fn(&[u8], &mut [u8], &mut [u8]) -> u64>;
+type Why = Box<dyn Fn(&[u8], u64) -> u64>;
 type Write = Box<dyn Fn(&[u8], &[u8], u64, &mut [u8]) -> u64>;
 type Map = Box<dyn Fn(&[u8], &mut [u8]) -> u64>;
 
@@ -22,6 +23,7 @@ type Map = Box<dyn Fn(&[u8], &mut [u8]) -> u64>;
 pub struct Form {
     pub name: &'static str,
     pub read: Read,
+    pub why: Why,
     pub write: Write,
     pub map: Map,
 }
@@ -32,6 +34,7 @@ pub fn plain() -> Form {
     Form {
         name: "plain",
         read: Box::new(|image, payload, slot0| hidden(read(image, payload, slot0)).number),
+        why: Box::new(|image, place| hidden(why(image, place)).number),
         write: Box::new(|payload, overhead, check, out| {
             hidden(write(payload, overhead, check, out)).number
         }),
@@ -47,6 +50,7 @@ pub fn optimised() -> Form {
         read: Box::new(|image, payload, slot0| {
             hidden(optimised::read(image, payload, slot0)).number
         }),
+        why: Box::new(|image, place| hidden(optimised::why(image, place)).number),
         write: Box::new(|payload, overhead, check, out| {
             hidden(optimised::write(payload, overhead, check, out)).number
         }),
@@ -84,6 +88,11 @@ enum Asked {
     Map {
         payload: Vec<u8>,
     },
+    /// About place 0 of an image of which this condition is said.
+    Why {
+        image: Vec<u8>,
+        condition: u64,
+    },
 }
 
 type Row = (&'static str, Asked);
@@ -98,9 +107,13 @@ fn rows() -> Vec<Row> {
     moved.truncate(8_192);
     // Signals, none of them 2, 4 or 6 ms from another.
     let false_starts = false_starts(8_192, &[0, 0, 1, 0, 1, 1, 0]);
+    // One signal, and none behind it within the reach of place 0.
+    let mut unpaired = aligned.clone();
+    wrong_signals(&mut unpaired, &[1, 2, 3]);
     let read = |image, number| Asked::Read { image, number };
+    let why = |image, condition| Asked::Why { image, condition };
     vec![
-        ("read-place-0", read(aligned, 0)),
+        ("read-place-0", read(aligned.clone(), 0)),
         ("read-place-3", read(moved, 0)),
         ("read-noise", read(r.octets(8_192), 3)),
         ("read-0x1B", read(vec![0x1B; 8_192], 3)),
@@ -114,6 +127,8 @@ fn rows() -> Vec<Row> {
             },
         ),
         ("map-16", Asked::Map { payload }),
+        ("why-stands", why(aligned, 0)),
+        ("why-no-pair", why(unpaired, 4)),
     ]
 }
 
@@ -128,11 +143,13 @@ pub fn hidden<T>(mut value: T) -> T {
 }
 
 impl Asked {
-    /// The octets that a copy takes in the call's stead.
+    /// The octets that a copy takes in the call's stead. Of a place that is asked
+    /// about none are handed over, so these are the ones that it needs behind it.
     fn handed_over(&self) -> &[u8] {
         match self {
             Asked::Read { image, .. } => &image[..7_936],
             Asked::Write { payload, .. } | Asked::Map { payload } => payload,
+            Asked::Why { image, .. } => &image[..2_048],
         }
     }
 
@@ -167,6 +184,14 @@ impl Asked {
                 hidden((form.map)(hidden(payload), &mut out));
                 hidden(&out);
             }),
+            Asked::Why { image, condition } => {
+                assert_eq!(why(image, 0).condition, *condition);
+                assert_eq!((form.why)(image, 0), 0, "{}", form.name);
+                Box::new(move || {
+                    let (image, place) = hidden((image, 0));
+                    hidden((form.why)(image, place));
+                })
+            }
         }
     }
 }

@@ -4,7 +4,7 @@
 #![forbid(unsafe_code)]
 
 use given::making::{flip, shifted, wrong_signals, wrong_words};
-use oracle::{read, write, Exchange};
+use oracle::{read, why, write, Exchange};
 use std::fmt::Write;
 
 /// What every lent octet holds before a call.
@@ -20,6 +20,7 @@ pub fn all() -> String {
     blocks(&mut text);
     far_ends(&mut text);
     outputs(&mut text);
+    whys(&mut text);
     writes(&mut text);
     rows(&mut text);
     runs(&mut text);
@@ -100,40 +101,33 @@ fn places(text: &mut String) {
         read_case(text, &format!("shift {front}"), &image);
     }
 
-    read_case(text, "k 7", &line(5)[64..]);
-
-    let mut image = line(4);
-    wrong_signals(&mut image, &[0]);
-    read_case(text, "k 8", &image);
-
-    let mut image = line(5);
-    wrong_signals(&mut image, &[1]);
-    read_case(text, "k 15", &image[64..]);
-
-    let mut image = line(4);
-    wrong_signals(&mut image, &[1, 3]);
-    read_case(text, "apart 16", &image);
-
-    let mut image = line(4);
-    wrong_signals(&mut image, &[1, 2]);
-    read_case(text, "apart 24", &image);
-
-    let mut image = line(4);
-    wrong_signals(&mut image, &[1, 2, 3]);
-    read_case(text, "apart none", &image);
-
-    let mut image = line(5);
-    wrong_signals(&mut image, &[2, 3]);
-    read_case(text, "apart too far", &image[64..]);
+    read_case(text, "k 7", &unsignalled(5, &[], 64));
+    read_case(text, "k 8", &unsignalled(4, &[0], 0));
+    read_case(text, "k 15", &unsignalled(5, &[1], 64));
+    read_case(text, "apart 16", &unsignalled(4, &[1, 3], 0));
+    read_case(text, "apart 24", &unsignalled(4, &[1, 2], 0));
+    read_case(text, "apart none", &unsignalled(4, &[1, 2, 3], 0));
+    read_case(text, "apart too far", &unsignalled(5, &[2, 3], 64));
 
     read_case(text, "no room", &shifted(&line(4), 1)[..2_048]);
+    read_case(text, "false place", &false_place());
+}
 
+/// A line with the signals of these multiframes wrong, without its first
+/// octets.
+fn unsignalled(n: usize, multiframes: &[usize], without: usize) -> Vec<u8> {
+    let mut image = line(n);
+    wrong_signals(&mut image, multiframes);
+    image.split_off(without)
+}
+
+/// Place 0 is that of slot 1 of a frame: words and bit 2, but no signal.
+fn false_place() -> Vec<u8> {
     let mut payload = payload(496 * 5);
     payload[0] = 0x1B;
     payload[31] = 0x40;
     payload[62] = 0x1B;
-    let image = line_of(&payload, &overhead(40));
-    read_case(text, "false place", &image[1..]);
+    line_of(&payload, &overhead(40)).split_off(1)
 }
 
 fn losses(text: &mut String) {
@@ -231,6 +225,97 @@ fn outputs(text: &mut String) {
     read_into(text, "order 1", &[], 0, 0);
     read_into(text, "order 2", &[0; 8_193], 0, 0);
     read_into(text, "order 3", &[0; 2_048], 0, 0);
+}
+
+fn why_case(text: &mut String, label: &str, image: &[u8], place: u64) {
+    let w = why(image, place);
+    write!(text, "{label}: {} condition {}", w.number, w.condition).unwrap();
+    writeln!(text, " k {} bit {}", w.k, w.bit).unwrap();
+}
+
+/// A line of four multiframes with these bits hit.
+fn hit_line(places: &[usize]) -> Vec<u8> {
+    let mut image = line(4);
+    hit(&mut image, places);
+    image
+}
+
+fn whys(text: &mut String) {
+    let no_pair = unsignalled(4, &[1, 2, 3], 0);
+    why_case(text, "14 stands", &line(4), 0);
+    why_case(text, "14 first word", &hit_line(&[5, 7]), 0);
+    why_case(text, "14 bit 2", &hit_line(&[257, 514]), 0);
+    why_case(text, "14 second word", &hit_line(&[514]), 0);
+    why_case(text, "14 no pair", &no_pair, 0);
+    why_case(text, "14 refused", &line(4), 1);
+
+    for (what, image) in [
+        ("stands", line(4)),
+        ("first word", hit_line(&[3, 6])),
+        ("bit 2", hit_line(&[257])),
+        ("second word", hit_line(&[516, 519])),
+        ("no pair", no_pair.clone()),
+    ] {
+        for front in 0..8 {
+            let label = format!("why {what} {front}");
+            why_case(text, &label, &shifted(&image, front), front as u64);
+        }
+    }
+
+    for bit in 2..=8 {
+        let label = format!("why bit {bit} of the first");
+        why_case(text, &label, &hit_line(&[bit - 1]), 0);
+    }
+    for bit in 2..=8 {
+        let label = format!("why bit {bit} of the second");
+        why_case(text, &label, &hit_line(&[511 + bit]), 0);
+    }
+    for bit in 2..=8 {
+        let label = format!("why from bit {bit} on");
+        let places: Vec<usize> = (bit - 1..=7).collect();
+        why_case(text, &label, &hit_line(&places), 0);
+    }
+    why_case(text, "why check bits", &hit_line(&[0, 512]), 0);
+    let mut image = no_pair;
+    hit(&mut image, &[1, 257, 513]);
+    why_case(text, "why all wrong", &image, 0);
+    why_case(text, "why zeros", &[0; 2_048], 0);
+    why_case(text, "why ones", &[255; 2_048], 0);
+    why_case(text, "why false place", &false_place(), 0);
+    why_case(text, "why past it", &false_place(), 504);
+    why_case(text, "why odd frame", &line(5), 256);
+
+    let mut signals = |label: &str, n: usize, multiframes: &[usize], without: usize| {
+        why_case(text, label, &unsignalled(n, multiframes, without), 0);
+    };
+    signals("why k 7", 5, &[], 64);
+    signals("why k 8", 4, &[0], 0);
+    signals("why k 15", 5, &[1], 64);
+    signals("why k 18", 5, &[1, 2], 384);
+    signals("why no k past 18", 6, &[1, 2, 3], 384);
+    signals("why apart 16", 4, &[1, 3], 0);
+    signals("why apart 24", 4, &[1, 2], 0);
+    signals("why too far", 5, &[2, 3], 64);
+
+    why_case(text, "why last of 2048", &line(4), 0);
+    why_case(text, "why past 2048", &line(4), 1);
+    why_case(text, "why last of 2049", &shifted(&line(4), 5), 8);
+    why_case(text, "why past 2049", &shifted(&line(4), 5), 9);
+    let most = line(16);
+    why_case(text, "why last of 8192", &most, 49_152);
+    why_case(text, "why past 8192", &most, 49_153);
+    why_case(text, "why end of 8192", &most, 65_536);
+    why_case(text, "why 2 to the 32", &most, 1 << 32);
+    why_case(text, "why 2 to the 61", &most, 1 << 61);
+    why_case(text, "why 2 to the 63", &most, 1 << 63);
+    why_case(text, "why 16384 below", &most, u64::MAX - 16_383);
+    why_case(text, "why most", &most, u64::MAX);
+    why_case(text, "why order 1", &[0; 2_047], u64::MAX);
+    why_case(text, "why order 2", &[0; 8_193], u64::MAX);
+    why_case(text, "why short", &most[..2_047], 0);
+    let mut long = most;
+    long.push(0);
+    why_case(text, "why long", &long, 0);
 }
 
 fn write_line(text: &mut String, label: &str, number: u64, check: u64, out: &[u8]) {

@@ -122,7 +122,12 @@ fn hit(r: &mut Random, line: &mut [u8], places: impl Iterator<Item = usize>, tim
 
 /// Turns over bits of the word in each of these frames, once in `times`: 1 to
 /// 7 of them, each number as often.
-fn hit_words(r: &mut Random, line: &mut [u8], frames: impl Iterator<Item = usize>, times: usize) {
+pub fn hit_words(
+    r: &mut Random,
+    line: &mut [u8],
+    frames: impl Iterator<Item = usize>,
+    times: usize,
+) {
     for f in frames {
         if r.once_in(times) {
             let mut word = [1, 2, 3, 4, 5, 6, 7];

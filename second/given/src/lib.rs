@@ -3,10 +3,12 @@
 
 #![forbid(unsafe_code)]
 
+mod asked;
 mod image;
 pub mod making;
 mod random;
 
+pub use asked::{asked, Asked};
 pub use image::image;
 pub use random::Random;
 

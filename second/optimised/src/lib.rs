@@ -1,7 +1,7 @@
-//! Reading, writing and mapping once more, as fast as safe Rust has them here:
-//! many places in one window of 64 bits, checks by folding, octets moved by the
-//! frame. The mark that the proved library's times are held to; the agreement
-//! tests hold it to the oracle.
+//! Reading, asking why, writing and mapping once more, as fast as safe Rust has
+//! them here: many places in one window of 64 bits, checks by folding, octets
+//! moved by the frame. The mark that the proved library's times are held to; the
+//! agreement tests hold it to the oracle.
 
 #![forbid(unsafe_code)]
 
@@ -9,11 +9,13 @@ mod check;
 mod mapping;
 mod place;
 mod reading;
+mod why;
 mod writing;
 
 pub use check::check;
 pub use mapping::map;
 pub use reading::read;
+pub use why::why;
 pub use writing::write;
 
 /// The 64 bits from octet i on, the first the highest.

@@ -4,7 +4,7 @@
 use crate::window;
 
 /// The octets that the places of a window look at.
-const AHEAD: usize = 2_048;
+pub const AHEAD: usize = 2_048;
 
 /// The octets from a window to the next, 56 places: the word of the last of
 /// them still ends in the window.
@@ -23,7 +23,7 @@ pub fn first(image: &[u8]) -> Option<(usize, usize)> {
                 let o = stand.leading_zeros() as usize;
                 let p = 8 * i + o;
                 let fits = p + 8 * AHEAD <= 8 * image.len();
-                return fits.then(|| (p, least(ahead, o)));
+                return fits.then(|| (p, pairs(ahead, o).trailing_zeros() as usize));
             }
         }
         i += STEP;
@@ -77,14 +77,14 @@ fn paired(ahead: &[u8; AHEAD]) -> u64 {
     u64::from_be(paired)
 }
 
-/// The least k of the place at bit o, which stands.
-fn least(ahead: &[u8; AHEAD], o: usize) -> usize {
+/// Each k with a pair of signals of the place at bit o, as a 1; the least k is
+/// the lowest bit.
+pub fn pairs(ahead: &[u8; AHEAD], o: usize) -> u32 {
     let mut m: u32 = 0;
     for k in 0..32 {
         let bit = window(ahead, 32 + 64 * k) << o >> 63;
         m |= (bit as u32) << k;
     }
     let signal = !m & !(m >> 1) & m >> 2 & !(m >> 3) & m >> 4 & m >> 5;
-    let paired = signal & (signal >> 8 | signal >> 16 | signal >> 24);
-    paired.trailing_zeros() as usize
+    signal & (signal >> 8 | signal >> 16 | signal >> 24)
 }

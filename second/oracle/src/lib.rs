@@ -9,8 +9,10 @@ pub mod exchange;
 pub mod line;
 pub mod place;
 pub mod reading;
+pub mod why;
 pub mod writing;
 
 pub use exchange::{Answer, Exchange};
 pub use reading::{read, report, Reading};
+pub use why::{said, why, Why};
 pub use writing::{write, Written};

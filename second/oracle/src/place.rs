@@ -16,12 +16,17 @@ fn paired(bits: &[u8], p: usize, k: usize) -> bool {
     (1..=3).any(|j| k + 8 * j + 5 <= 31 && signal_at(bits, p, k + 8 * j))
 }
 
+/// Whether a pair of signals begins at k, which is 26 at most.
+pub fn pair_at(bits: &[u8], p: usize, k: usize) -> bool {
+    signal_at(bits, p, k) && paired(bits, p, k)
+}
+
 /// The least k of a place that stands.
 fn stands(bits: &[u8], p: usize) -> Option<usize> {
     if p + 16_384 > bits.len() || !basic_alignment(bits, p) {
         return None;
     }
-    (0..=26).find(|&k| signal_at(bits, p, k) && paired(bits, p, k))
+    (0..=26).find(|&k| pair_at(bits, p, k))
 }
 
 /// The first place that stands, with its least k.

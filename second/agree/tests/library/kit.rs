@@ -1,10 +1,11 @@
 //! The proved library in the shape of the oracle, through its safe binding.
-//! Each read and write is made once more through the C interface: the number
-//! returned, all places of the answer, which are set beforehand, and every
-//! octet must be what the binding says.
+//! Each read, why and write is made once more through the C interface: the
+//! number returned, all places of the answer, which are set beforehand, and
+//! every octet must be what the binding says.
 
 use jikhvanto::sys::{self, ANSWER};
-use oracle::{Reading, Written};
+use jikhvanto::Why as Said;
+use oracle::{Reading, Why, Written};
 
 /// What a call leaves in the places of its answer.
 pub fn answered(call: impl FnOnce(&mut [u64; ANSWER]) -> u64) -> [u64; ANSWER] {
@@ -61,6 +62,28 @@ pub fn read(image: &[u8], payload: &mut [u8], slot0: &mut [u8]) -> Reading {
     assert_eq!(answer, places(values));
     assert!(c_payload == payload && c_slot0 == slot0, "outputs of {r:?}");
     r
+}
+
+pub fn why(image: &[u8], place: u64) -> Why {
+    // SAFETY: the pointer comes with the length of its own slice.
+    let answer =
+        answered(|answer| unsafe { sys::jk_why(image.as_ptr(), image.len(), place, answer) });
+    let (number, condition, k, bit) = match jikhvanto::why(image, place) {
+        Ok(Said::Stands { k }) => (0, 0, k, 0),
+        Ok(Said::FirstWord { bit }) => (0, 1, 0, bit),
+        Ok(Said::Bit2) => (0, 2, 0, 0),
+        Ok(Said::SecondWord { bit }) => (0, 3, 0, bit),
+        Ok(Said::NoPair) => (0, 4, 0, 0),
+        Err(refusal) => (refusal.number(), 0, 0, 0),
+    };
+    let w = Why {
+        number,
+        condition,
+        k: k as u64,
+        bit: bit as u64,
+    };
+    assert_eq!(answer, places([w.number, w.condition, w.k, w.bit]));
+    w
 }
 
 pub fn write(payload: &[u8], overhead: &[u8], check: u64, out: &mut [u8]) -> Written {

@@ -14,6 +14,11 @@ fn reads() {
 }
 
 #[test]
+fn whys() {
+    agree::whys("the library", kit::why);
+}
+
+#[test]
 fn writes() {
     agree::writes("the library", kit::write);
 }

@@ -17,6 +17,7 @@ fn kit() -> Form {
         read: Box::new(|image, payload, slot0| {
             number(hidden(jikhvanto::read(image, payload, slot0)))
         }),
+        why: Box::new(|image, place| number(hidden(jikhvanto::why(image, place)))),
         write: Box::new(|payload, overhead, check, out| {
             number(hidden(jikhvanto::write(payload, overhead, check, out)))
         }),
