@@ -21,9 +21,9 @@
 #include <stdint.h>
 
 #define JK_VERSION_MAJOR 0
-#define JK_VERSION_MINOR 2
+#define JK_VERSION_MINOR 3
 #define JK_VERSION_PATCH 0
-#define JK_VERSION "0.2.0"
+#define JK_VERSION "0.3.0"
 
 #define JK_ANSWER 16 /* places of an answer */
 #define JK_STATE 99  /* octets of a state */
@@ -43,7 +43,8 @@ enum jk_number {
     JK_BAD_SLOT = 10,       /* kind 1 or 3 with a not 1 to 31, or kind 1 with b over 31 */
     JK_KEY_OFF = 11,        /* kind 1, 2 or 4 with the flag off */
     JK_NOTHING_STAGED = 12, /* kind 2 or 4 with nothing staged */
-    JK_BAD_POSITION = 13    /* the key's position isn't 0 or 1 */
+    JK_BAD_POSITION = 13,   /* the key's position isn't 0 or 1 */
+    JK_LATE_PLACE = 14      /* fewer than 16,384 bits from the place to the end of the image */
 };
 
 /* The places of an answer; the number is in place 0 of each. */
@@ -62,11 +63,25 @@ enum jk_place {
     JK_FAREND = 9,    /* E bits that are 0, in multiframes whose second block was compared and agreed */
     JK_WORDBITS = 10, /* wrong bits of the alignment words in the multiframes used, 1 to 7 for each wrong word */
 
+    /* jk_why */
+    JK_CONDITION = 1, /* what is said of the place, of enum jk_condition */
+    JK_K = 2,         /* JK_STANDS: the least k, 0 to 18; the first multiframe known to begin starts at the place + 512k */
+    JK_BIT = 3,       /* JK_FIRST_WORD, JK_SECOND_WORD: the bit of the image that is the first wrong one of the word */
+
     /* jk_write */
     JK_CHECK = 1,     /* the check of the last block, for the next call */
 
     /* jk_host */
     JK_ENTRY = 1      /* the entry that a record of kind 3 reads, 0 for any other */
+};
+
+/* What is said of a place p: that it stands, or which condition it fails first. */
+enum jk_condition {
+    JK_STANDS = 0,      /* it fails none */
+    JK_FIRST_WORD = 1,  /* the alignment word in bits p + 1 to p + 7 is wrong */
+    JK_BIT_2 = 2,       /* bit p + 257, bit 2 of the next frame, is 0 */
+    JK_SECOND_WORD = 3, /* the alignment word in bits p + 513 to p + 519 is wrong */
+    JK_NO_PAIR = 4      /* no two multiframe signals are 2, 4 or 6 ms apart */
 };
 
 /* The kinds of a host's record. */
@@ -91,6 +106,13 @@ uint64_t jk_read(const uint8_t *image, size_t image_octets,
                  uint8_t *payload, size_t payload_octets,
                  uint8_t *slot0, size_t slot0_octets,
                  uint64_t answer[JK_ANSWER]);
+
+/*
+ * Says of a place of an image, a bit counted from 0, that it stands, or why it does not. Any number may be asked about.
+ * answer: JK_CONDITION, JK_K, JK_BIT; a value that the condition does not name is 0
+ * Refused: 1 JK_SHORT_IMAGE, 2 JK_LONG_IMAGE, 14 JK_LATE_PLACE
+ */
+uint64_t jk_why(const uint8_t *image, size_t image_octets, uint64_t place, uint64_t answer[JK_ANSWER]);
 
 /*
  * Writes n multiframes, n from 1 to 16, from a payload of 496n octets and 8n octets of overhead to 512n octets of out.

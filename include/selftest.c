@@ -87,6 +87,51 @@ static void reading(void)
     EXPECT(reads(ten) && answer[JK_WORDS] == 2 && answer[JK_WORDBITS] == 10);
 }
 
+/* Whether this is said of a place of the line's first octets, with zeros behind. */
+static int said(size_t octets, uint64_t place, enum jk_condition condition, uint64_t k, uint64_t bit)
+{
+    uint64_t expected[JK_ANSWER] = {JK_ACCEPTED};
+
+    expected[JK_CONDITION] = condition;
+    expected[JK_K] = k;
+    expected[JK_BIT] = bit;
+    memset(answer, BEFORE, sizeof answer);
+    return jk_why(image, octets, place, answer) == JK_ACCEPTED && !memcmp(answer, expected, sizeof answer);
+}
+
+static void asking(void)
+{
+    static const uint64_t most = (uint64_t)-1;
+    int m;
+
+    REFUSED(jk_why(image, 2047, most, answer), JK_SHORT_IMAGE);
+    REFUSED(jk_why(image, 8193, most, answer), JK_LONG_IMAGE);
+    REFUSED(jk_why(image, 2048, most, answer), JK_LATE_PLACE);
+    REFUSED(jk_why(image, 2048, 1, answer), JK_LATE_PLACE);
+
+    /* a frame 0, the frame 2 behind it, and the odd frame in between */
+    EXPECT(said(2048, 0, JK_STANDS, 0, 0));
+    EXPECT(said(2112, 512, JK_STANDS, 7, 0));
+    EXPECT(said(2112, 256, JK_FIRST_WORD, 0, 257));
+
+    /* bits 5, 7, 257 and 514 hit, and put right again */
+    image[0] ^= 0x05;
+    image[32] ^= 0x40;
+    image[64] ^= 0x20;
+    EXPECT(said(2048, 0, JK_FIRST_WORD, 0, 5));
+    image[0] ^= 0x05;
+    EXPECT(said(2048, 0, JK_BIT_2, 0, 0));
+    image[32] ^= 0x40;
+    EXPECT(said(2048, 0, JK_SECOND_WORD, 0, 514));
+    image[64] ^= 0x20;
+    EXPECT(said(2048, 0, JK_STANDS, 0, 0));
+
+    /* every signal but the first wrong */
+    for (m = 1; m < N; m++)
+        image[(16 * m + 1) * 32] ^= 0x80;
+    EXPECT(said(2048, 0, JK_NO_PAIR, 0, 0));
+}
+
 static void map_and_key(void)
 {
     static const uint8_t stage[4] = {JK_KIND_STAGE, 5, 9, 0}, commit[4] = {JK_KIND_COMMIT, 0, 0, 0};
@@ -127,6 +172,7 @@ int main(void)
 {
     writing();
     reading();
+    asking();
     map_and_key();
     if (!failed)
         printf("ok\n");

@@ -4,9 +4,11 @@
 mod refusal;
 mod state;
 pub mod sys;
+mod why;
 
 pub use refusal::Refusal;
 pub use state::{kind, State};
+pub use why::{why, Why};
 
 use refusal::accepted;
 use sys::ANSWER;

@@ -31,12 +31,14 @@ pub enum Refusal {
     NothingStaged = 12,
     /// The key's position isn't 0 or 1.
     BadPosition = 13,
+    /// Fewer than 16,384 bits from the place to the end of the image.
+    LatePlace = 14,
 }
 
 use Refusal::*;
 
 /// In the order of their numbers, in words.
-const ALL: [(Refusal, &str); 13] = [
+const ALL: [(Refusal, &str); 14] = [
     (ShortImage, "the image is under 2,048 octets"),
     (LongImage, "the image is over 8,192 octets"),
     (NoPlace, "no place of the image stands"),
@@ -62,6 +64,10 @@ const ALL: [(Refusal, &str); 13] = [
         "nothing is staged, so there is nothing to commit or drop",
     ),
     (BadPosition, "the key's position isn't 0 or 1"),
+    (
+        LatePlace,
+        "fewer than 16,384 bits from the place to the end of the image",
+    ),
 ];
 
 impl Refusal {

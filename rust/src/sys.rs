@@ -18,6 +18,12 @@ extern "C" {
         slot0_octets: usize,
         answer: *mut [u64; ANSWER],
     ) -> u64;
+    pub fn jk_why(
+        image: *const u8,
+        image_octets: usize,
+        place: u64,
+        answer: *mut [u64; ANSWER],
+    ) -> u64;
     pub fn jk_write(
         payload: *const u8,
         payload_octets: usize,

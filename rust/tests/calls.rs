@@ -1,6 +1,6 @@
 //! Every call, accepted and with each of its refusals.
 
-use jikhvanto::{kind, read, write, Refusal, State};
+use jikhvanto::{kind, read, why, write, Refusal, State, Why};
 
 const BEFORE: u8 = 0xAA;
 
@@ -62,6 +62,37 @@ fn wrong_bits_of_words_are_counted() {
 }
 
 #[test]
+fn a_place_is_asked_about() {
+    let mut line = line(5);
+    let hit = |line: &mut [u8], places: &[usize]| {
+        for place in places {
+            line[place / 8] ^= 128 >> (place % 8);
+        }
+    };
+    assert_eq!(why(&line, 0), Ok(Why::Stands { k: 0 }));
+    assert_eq!(why(&line, 512), Ok(Why::Stands { k: 7 }));
+    assert_eq!(why(&line, 4_096), Ok(Why::Stands { k: 0 }));
+    // An odd frame's bit 2 is where a word begins with 0.
+    assert_eq!(why(&line, 256), Ok(Why::FirstWord { bit: 257 }));
+
+    hit(&mut line, &[5, 7, 257, 514]);
+    assert_eq!(why(&line, 0), Ok(Why::FirstWord { bit: 5 }));
+    hit(&mut line, &[5, 7]);
+    assert_eq!(why(&line, 0), Ok(Why::Bit2));
+    hit(&mut line, &[257]);
+    assert_eq!(why(&line, 0), Ok(Why::SecondWord { bit: 514 }));
+    assert_eq!(why(&line, 512), Ok(Why::FirstWord { bit: 514 }));
+    hit(&mut line, &[514]);
+    assert_eq!(why(&line, 0), Ok(Why::Stands { k: 0 }));
+
+    // The first mark of a signal: that of frame 1, then those of three others.
+    hit(&mut line, &[256]);
+    assert_eq!(why(&line, 0), Ok(Why::Stands { k: 8 }));
+    hit(&mut line, &[256, 17 * 256, 33 * 256, 49 * 256]);
+    assert_eq!(why(&line, 0), Ok(Why::NoPair));
+}
+
+#[test]
 fn a_check_is_handed_on() {
     let (payload, overhead) = (payload(2), [0; 16]);
     let (mut whole, mut parts) = ([0; 1_024], [0; 1_024]);
@@ -89,6 +120,21 @@ fn reads_are_refused() {
     assert_eq!(refused(&line, 7_935, 256), Refusal::ShortOutput);
     assert_eq!(refused(&line, 7_936, 255), Refusal::ShortOutput);
     assert_eq!(refused(&[], 0, 0), Refusal::ShortImage);
+}
+
+#[test]
+fn places_are_refused() {
+    let line = line(16);
+    assert_eq!(why(&line, 49_152), Ok(Why::Stands { k: 0 }));
+    assert_eq!(why(&line, 49_153), Err(Refusal::LatePlace));
+    assert_eq!(why(&line[..2_048], 0), Ok(Why::Stands { k: 0 }));
+    assert_eq!(why(&line[..2_048], 1), Err(Refusal::LatePlace));
+    for place in [1 << 32, 1 << 61, 1 << 63, u64::MAX - 16_383, u64::MAX] {
+        assert_eq!(why(&line, place), Err(Refusal::LatePlace));
+        assert_eq!(why(&line[..2_047], place), Err(Refusal::ShortImage));
+        assert_eq!(why(&[0; 8_193], place), Err(Refusal::LongImage));
+    }
+    assert_eq!(why(&[], 0), Err(Refusal::ShortImage));
 }
 
 #[test]

@@ -1,6 +1,6 @@
 //! The names, the numbers and the version are those of the C header.
 
-use jikhvanto::{kind, sys, Refusal};
+use jikhvanto::{kind, sys, Refusal, Why};
 
 const HEADER: &str = include_str!("../../include/jikhvanto.h");
 
@@ -22,11 +22,11 @@ fn pair(text: &'static str) -> (&'static str, u64) {
     (name, number.parse().unwrap())
 }
 
-/// `KeyOff` as the header writes it, `KEY_OFF`.
+/// `KeyOff` as the header writes it, `KEY_OFF`, and `Bit2` too, `BIT_2`.
 fn shouted(name: &str) -> String {
     let mut shouted = String::new();
     for letter in name.chars() {
-        if letter.is_uppercase() && !shouted.is_empty() {
+        if !letter.is_lowercase() && !shouted.is_empty() {
             shouted.push('_');
         }
         shouted.push(letter.to_ascii_uppercase());
@@ -45,8 +45,26 @@ fn refusals() {
         assert_eq!(refusal.number(), *number);
         assert!(!refusal.to_string().is_empty());
     }
-    assert_eq!(named.len(), 14);
-    assert_eq!(Refusal::from_number(14), None);
+    assert_eq!(named.len(), 15);
+    assert_eq!(Refusal::from_number(15), None);
+}
+
+#[test]
+fn conditions() {
+    let conditions = [
+        Why::Stands { k: 0 },
+        Why::FirstWord { bit: 0 },
+        Why::Bit2,
+        Why::SecondWord { bit: 0 },
+        Why::NoPair,
+    ];
+    let named = named("jk_condition");
+    assert_eq!(named.len(), conditions.len());
+    for (i, why) in conditions.iter().enumerate() {
+        let text = format!("{why:?}");
+        let name = text.split(' ').next().unwrap();
+        assert_eq!((shouted(name).as_str(), i as u64), named[i]);
+    }
 }
 
 #[test]
