@@ -7,14 +7,15 @@ use mathlib.Core.List.{List, [], _∷_, _++_}
 use Prim.Native.Nat.{ℕ, suc, zero, _+_, _-_, _*_, _/_, _%_, _^_, _≤_, _<_, zero-le, suc-le-suc}
 use native.Mathlib.Nat.{mod-lt, div-lt-iff-lt-mul, mod-eq-of-lt, div-eq-of-lt, suc-inj, suc-ne-zero, le-dest, zero-lt-suc, zero-add, add-zero, mul-one, pow-suc, le-mul-of-pos-right, le-of-eq, one-mul}
 use lib.Dec.{lit<}
-use native.Mathlib.Decide.{ℕ-discrete}
+use native.Mathlib.Decide.{ℕ-discrete, decLt}
 use lib.Seq.{ext-getD, getD-append-seam}
 use native.Mathlib.Omega.{arith}
 use lib.Bits.{bitXor, xor-lt, xor-shr, xor-mod, xor-zero-r, xor-self}
 use lib.ListN.{length, getD, length-append, List·getD-append, List·getD-eq-default}
 use lib.Pow.{pow-pos, pow-mono, pow-add, pow-lt, split}
 use Rattle.base.specs.Tab.{tab}
-use Rattle.base.proofs.TabLaws.{tab-more}
+use Rattle.base.proofs.TabLaws.{length-tab, getD-tab}
+use Rattle.line.proofs.SpeltLaws.{Binary}
 use Rattle.crc.specs.Remainder.{Bits, zeros, step, after, check}
 use Rattle.crc.proofs.Xor.{xor4, xor-eq, xor-twice, xor-three, xor-bit, xor-differ}
 
@@ -29,23 +30,26 @@ unfolding after
 after-append w r [] cs = refl
 after-append w r (b ∷ bs) cs = after-append w (step w r b) bs cs
 
--- one bit more of a table
-pub after-more : (w r n : ℕ) (f : ℕ → ℕ) → after w r (tab (n + 1) f) ≡ step w (after w r (tab n f)) (f n)
-unfolding after
-after-more w r n f = ap (after w r) (tab-more n f) ∙ after-append w r (tab n f) (f n ∷ [])
-
 plus-zeros : (n : ℕ) → plus (zeros n) (zeros n) ≡ zeros n
 unfolding plus
 plus-zeros zero = refl
 plus-zeros (suc n) = ap (λ (l : List ℕ). 0 ∷ l) (plus-zeros n)
 
-zeros-zero : (n i : ℕ) → getD (zeros n) i 0 ≡ 0
+pub zeros-zero : (n i : ℕ) → getD (zeros n) i 0 ≡ 0
 zeros-zero zero i = refl
 zeros-zero (suc n) zero = refl
 zeros-zero (suc n) (suc i) = zeros-zero n i
 
 pub zeros-bits : (n : ℕ) → Bits (zeros n)
 zeros-bits n i = omega (arith, zeros-zero n i)
+
+pub tab-bits : (n : ℕ) (f : ℕ → ℕ) → Binary f → Bits (tab n f)
+tab-bits n f h i = go (decLt i n)
+  where
+    go : Dec (i < n) → getD (tab n f) i 0 < 2
+    go (yes l) = subst (λ x. x < 2) (sym (getD-tab n f i 0 l)) (h i)
+    go (no l) =
+        let past : getD (tab n f) i 0 ≡ 0 = List·getD-eq-default (tab n f) 0 (omega (arith, length-tab n f)) in omega arith
 
 cons-zero : (b : ℕ) (bs : List ℕ) → b ≡ 0 → ((i : ℕ) → getD bs i 0 ≡ 0) → (i : ℕ) → getD (b ∷ bs) i 0 ≡ 0
 cons-zero b bs e h zero = e
@@ -118,14 +122,19 @@ module _ (w : ℕ) (wide : 2 ≤ w) where
       ∙ after-linear (step w r b) (step w s c) bs cs (step-lt r b hr (hb 0)) (step-lt s c hs (hc 0)) (λ i. hb (suc i))
       (λ i. hc (suc i)) (suc-inj e)
 
+  pub zeros-linear : (n r s : ℕ) → r < 2 ^ w → s < 2 ^ w
+      → after w (bitXor r s) (zeros n) ≡ bitXor (after w r (zeros n)) (after w s (zeros n))
+  zeros-linear n r s hr hs =
+      ap (after w (bitXor r s)) (sym (plus-zeros n))
+      ∙ after-linear r s (zeros n) (zeros n) hr hs (zeros-bits n) (zeros-bits n) refl
+
   pub check-linear : (bs cs : List ℕ) → Bits bs → Bits cs → length bs ≡ length cs
       → check w (plus bs cs) ≡ bitXor (check w bs) (check w cs)
   unfolding check
   check-linear bs cs hb hc e =
       after-append w 0 (plus bs cs) (zeros w)
-      ∙ ap₂ (after w) (after-linear 0 0 bs cs (pow-pos w) (pow-pos w) hb hc e) (sym (plus-zeros w))
-      ∙ after-linear (after w 0 bs) (after w 0 cs) (zeros w) (zeros w)
-      (after-lt 0 bs (pow-pos w) hb) (after-lt 0 cs (pow-pos w) hc) (zeros-bits w) (zeros-bits w) refl
+      ∙ ap (λ x. after w x (zeros w)) (after-linear 0 0 bs cs (pow-pos w) (pow-pos w) hb hc e)
+      ∙ zeros-linear w (after w 0 bs) (after w 0 cs) (after-lt 0 bs (pow-pos w) hb) (after-lt 0 cs (pow-pos w) hc)
       ∙ sym (ap₂ bitXor (after-append w 0 bs (zeros w)) (after-append w 0 cs (zeros w)))
 
   pub check-lt : (bs : List ℕ) → Bits bs → check w bs < 2 ^ w
@@ -202,8 +211,7 @@ module _ (w : ℕ) (wide : 2 ≤ w) where
   pub zeros-injective : (n r s : ℕ) → r < 2 ^ w → s < 2 ^ w → after w r (zeros n) ≡ after w s (zeros n) → r ≡ s
   zeros-injective n r s hr hs e =
       xor-eq r s (zeros-kept (bitXor r s) (zeros n) (xor-lt w r s hr hs) (zeros-zero n)
-      (ap (after w (bitXor r s)) (sym (plus-zeros n)) ∙ after-linear r s (zeros n) (zeros n) hr hs (zeros-bits n) (zeros-bits n) refl
-      ∙ ap (λ x. bitXor x (after w s (zeros n))) e ∙ xor-self (after w s (zeros n))))
+      (zeros-linear n r s hr hs ∙ ap (λ x. bitXor x (after w s (zeros n))) e ∙ xor-self (after w s (zeros n))))
 
   -- plus 1
   pub step-one : (r : ℕ) → r < 2 ^ w → step w r 1 ≡ bitXor (step w r 0) 1

@@ -2,3 +2,7 @@ pub mod Xor
 pub mod Laws
 pub mod Division
 pub mod StripedLaws
+pub mod Digits
+pub mod Order
+mod FoldLaws
+mod TableLaws

@@ -1,9 +1,8 @@
 -- The laws of blocks, over their length, their stripes and the check's width.
 use Prim.Native.Nat.{ℕ, _+_, _%_, _≤_, _<_}
-use mathlib.Core.Path.{_≡_, sym, ap, _∙_, subst}
+use mathlib.Core.Path.{_≡_, sym, ap, _∙_}
 use mathlib.Core.Logic.{_≢_}
 use mathlib.Core.Bool.{Bool, true, false, cond}
-use mathlib.Core.List.{List}
 use native.Mathlib.Decide.{ℕ-discrete, decLt}
 use native.Mathlib.Omega.{arith}
 use borrow.Author.Tests.{eq-eqb, ne-eqb}
@@ -12,7 +11,7 @@ use lib.ListN.{length, getD, List·getD-eq-default}
 use Rattle.base.proofs.TabLaws.{length-tab, getD-tab, tab-agree}
 use Rattle.line.proofs.SpeltLaws.{Binary}
 use Rattle.crc.specs.Remainder.{check, Bits}
-use Rattle.crc.proofs.Laws.{check-lt, burst-same}
+use Rattle.crc.proofs.Laws.{tab-bits, burst-same}
 use Rattle.crc.specs.Striped.{readAs, striped}
 
 module _ (d b : ℕ) where
@@ -45,11 +44,8 @@ module _ (d b : ℕ) where
     striped-past f i h = List·getD-eq-default (striped n d b f) 0 (omega (arith, striped-length f))
 
     pub striped-bits : b < 2 → (f : ℕ → ℕ) → Binary f → Bits (striped n d b f)
-    striped-bits hb f h i = go (decLt i n)
-      where
-        go : Dec (i < n) → getD (striped n d b f) i 0 < 2
-        go (yes l) = subst (λ x. x < 2) (sym (striped-at f i l)) (read-lt hb f h i)
-        go (no l) = omega (arith, striped-past f i (omega arith))
+    unfolding striped
+    striped-bits hb f h = tab-bits n (readAs d b f) (read-lt hb f h)
 
     -- where the data bits are the same, so is the block
     pub striped-agree : (f g : ℕ → ℕ) → ((i : ℕ) → i < n → i % d ≢ 0 → f i ≡ g i) → striped n d b f ≡ striped n d b g

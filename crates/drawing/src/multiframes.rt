@@ -23,7 +23,8 @@ fn mark_of(image: &[u8], r: Reading, b: usize) -> Mark
     if r.compared <= b {
         return Mark::NotCompared;
     }
-    if e1::agrees(image, r.start + 2048 * b) {
+    let table = crc::table::remainders();
+    if e1::agrees(image, r.start + 2048 * b, &table) {
         return Mark::Clean;
     }
     Mark::Errored

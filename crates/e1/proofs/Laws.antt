@@ -1,7 +1,6 @@
 -- The laws of the payload's order and of blocks that the crates above cite.
-use Prim.Native.Nat.{ℕ, _+_, _*_, _%_, _≤_, _<_}
+use Prim.Native.Nat.{ℕ, _+_, _*_, _≤_, _<_}
 use mathlib.Core.Path.{_≡_, refl}
-use mathlib.Core.Logic.{_≢_}
 use mathlib.Core.List.{List}
 use native.Mathlib.Nat.{add-zero}
 use native.Mathlib.Omega.{arith}
@@ -14,7 +13,7 @@ use Rattle.line.specs.Spelt.{spelt}
 use Rattle.line.proofs.SpeltLaws.{Binary}
 use Rattle.crc.specs.Remainder.{Bits}
 use Rattle.crc.proofs.StripedLaws as striped
-use Rattle.e1.specs.Block.{blockBit, blockBits, carried, blockCheck}
+use Rattle.e1.specs.Block.{blockBits, carried, blockCheck}
 use Rattle.e1.specs.Frame.{signal}
 use Rattle.e1.specs.Payload.{indexOf, frameOf, slotOf}
 use Rattle.base.specs.Tab.{all}
@@ -34,12 +33,6 @@ index-of i = omega arith
 -- a block's bits
 block-bits-lt : (s : List ℕ) (q : ℕ) → Binary (λ i. bitAt s (q + i))
 block-bits-lt s q i = bit-lt s (q + i)
-
-pub data-bit : (s : List ℕ) (q i : ℕ) → i % 512 ≢ 0 → blockBit s q i ≡ bitAt s (q + i)
-data-bit s q i n = striped.data-bit 512 0 (λ i. bitAt s (q + i)) i n
-
-pub check-bit : (s : List ℕ) (q i : ℕ) → i % 512 ≡ 0 → blockBit s q i ≡ 0
-check-bit s q i e = striped.stripe-bit 512 0 (λ i. bitAt s (q + i)) i e
 
 pub block-length : (s : List ℕ) (q : ℕ) → length (blockBits s q) ≡ 2048
 block-length s q = striped.striped-length 512 0 2048 (λ i. bitAt s (q + i))

@@ -11,9 +11,9 @@ use lib.Seq.{ext-getD}
 use lib.Pow.{high, low, shr-shr, mod-pow-add, shl-shr, shr-mod, shr-lt}
 use Rattle.base.specs.Tab.{tab}
 use Rattle.base.proofs.TabLaws.{tab-agree}
-use Rattle.line.specs.Spelt.{spelt}
+use Rattle.line.specs.Spelt.{spelt, digit}
 use Rattle.line.specs.Bit.{bitAt, field, octetAt, octetBits}
-use Rattle.line.proofs.SpeltLaws.{spelt-add, spelt-agree, spelt-lt, spelt-same}
+use Rattle.line.proofs.SpeltLaws.{spelt-add, spelt-agree, spelt-lt, spelt-same, digit-spelt}
 
 pub bit-lt : (s : List ℕ) (p : ℕ) → bitAt s p < 2
 unfolding bitAt
@@ -69,30 +69,28 @@ octet-two s q o k e h =
     ap (field s (8 * q + o)) (sym z) ∙ add
     ∙ rw (next, field-in s q o k 0 (omega arith), field-in s (q + 1) 0 o k (omega arith), whole, shr-mod o k lt)
 
+-- the low bits of x and the high bits of y as one word of k + o bits, by shifts
+pub shifts-join : (x y k o : ℕ) → y < 2 ^ (o + k) → bitOr (x * 2 ^ o % 2 ^ (k + o)) (y / 2 ^ k) ≡ x % 2 ^ k * 2 ^ o + y / 2 ^ k
+shifts-join x y k o h =
+    let low : x * 2 ^ o % 2 ^ (k + o) ≡ x % 2 ^ k * 2 ^ o = mod-pow-add (x * 2 ^ o) k o ∙ rw (shl-shr x o, mul-mod-left x (2 ^ o)) (add-zero _) in
+    rw low (or-shifted (x % 2 ^ k) o (y / 2 ^ k) (shr-lt o k h))
+
 -- the same by shifts of octets
-pub octet-shifts : (s : List ℕ) (p : ℕ) → getD s (p / 8 + 1) 0 < 2 ^ 8
-    → bitOr (getD s (p / 8) 0 * 2 ^ bitAnd p 7 % 256) (getD s (p / 8 + 1) 0 / 2 ^ (8 - bitAnd p 7)) ≡ octetAt s p
-octet-shifts s p h = rw (and-mask p 3) (go (p / 8) (p % 8) (8 - p % 8) (omega arith) h ∙ ap (octetAt s) (omega arith))
-  where
-    go : (q o k : ℕ) → o + k ≡ 8 → getD s (q + 1) 0 < 2 ^ 8
-        → bitOr (getD s q 0 * 2 ^ o % 256) (getD s (q + 1) 0 / 2 ^ k) ≡ octetAt s (8 * q + o)
-    go q o k e h =
-        let x = getD s q 0 in
-        let y = getD s (q + 1) 0 in
-        let z : k + o ≡ 8 = omega arith in
-        let low : x * 2 ^ o % 2 ^ (k + o) ≡ x % 2 ^ k * 2 ^ o = mod-pow-add (x * 2 ^ o) k o ∙ rw (shl-shr x o, mul-mod-left x (2 ^ o)) (add-zero _) in
-        let low8 : x * 2 ^ o % 2 ^ 8 ≡ x % 2 ^ k * 2 ^ o = rw z at low in
-        let lt : y < 2 ^ (o + k) = rw e h in
-        rw (low8, octet-two s q o k e h) (or-shifted (x % 2 ^ k) o (y / 2 ^ k) (shr-lt o k lt))
+pub octet-shifts : (s : List ℕ) (q o k : ℕ) → o + k ≡ 8 → getD s (q + 1) 0 < 2 ^ 8
+    → bitOr (getD s q 0 * 2 ^ o % 256) (getD s (q + 1) 0 / 2 ^ k) ≡ octetAt s (8 * q + o)
+octet-shifts s q o k e h =
+    let z : k + o ≡ 8 = omega arith in
+    let lt : getD s (q + 1) 0 < 2 ^ (o + k) = rw e h in
+    ap (λ n. bitOr (getD s q 0 * 2 ^ o % 2 ^ n) (getD s (q + 1) 0 / 2 ^ k)) (sym z)
+    ∙ shifts-join (getD s q 0) (getD s (q + 1) 0) k o lt ∙ sym (octet-two s q o k e h)
 
 -- an octet that lies in one
-pub octet-one : (s : List ℕ) (p : ℕ) → bitAnd p 7 ≡ 0 → getD s (p / 8) 0 < 2 ^ 8 → getD s (p / 8) 0 ≡ octetAt s p
-octet-one s p e h =
-    let z : p % 8 ≡ 0 = sym (and-mask p 3) ∙ e in
-    let here : 8 * (p / 8) + 0 ≡ p = omega arith in
-    let f : field s (8 * (p / 8) + 0) 8 ≡ getD s (p / 8) 0 / 2 ^ 0 % 2 ^ 8 = field-in s (p / 8) 0 8 0 refl in
-    let g : octetAt s p ≡ getD s (p / 8) 0 / 2 ^ 0 % 2 ^ 8 = rw here at f in
-    omega arith
+pub octet-one : (s : List ℕ) (q o : ℕ) → o ≡ 0 → getD s q 0 < 2 ^ 8 → getD s q 0 ≡ octetAt s (8 * q + o)
+octet-one s q o z h = rw z (omega (arith, field-in s q 0 8 0 refl))
+
+-- a place is a bit of an octet
+pub place-in : (p : ℕ) → 8 * (p / 8) + bitAnd p 7 ≡ p
+place-in p = omega (arith, and-mask p 3)
 
 -- the last seven bits of an octet
 pub word-of : (s : List ℕ) (p : ℕ) → bitAnd (octetAt s p) 127 ≡ field s (p + 1) 7
@@ -110,12 +108,16 @@ pub bit-of-field : (s : List ℕ) (p n m : ℕ) → field s p (n + 1 + m) / 2 ^ 
 unfolding field spelt
 bit-of-field s p n m = field-within s p n 1 m ∙ rw add-zero (omega arith)
 
--- the bits of an octet of the line
+-- the digits of a field are its bits
+pub field-digits : (s : List ℕ) (p n : ℕ) → tab n (digit n (field s p n)) ≡ tab n (λ i. bitAt s (p + i))
+unfolding field
+field-digits s p n =
+    tab-agree n (digit n (field s p n)) (λ i. bitAt s (p + i))
+    (λ i h. digit-spelt n i (λ i. bitAt s (p + i)) (λ i. bit-lt s (p + i)) h)
+
 pub octet-bits : (s : List ℕ) (p : ℕ) → octetBits (octetAt s p) ≡ tab 8 (λ i. bitAt s (p + i))
 unfolding octetBits
-octet-bits s p =
-    tab-agree 8 (λ i. octetAt s p / 2 ^ (7 - i) % 2) (λ i. bitAt s (p + i))
-    (λ i h. let e : i + 1 + (7 - i) ≡ 8 = omega arith in rw (← e) (bit-of-field s p i (7 - i)))
+octet-bits s p = field-digits s p 8
 
 -- equal fields have equal bits
 pub field-same : (s t : List ℕ) (p n : ℕ) → field s p n ≡ field t p n

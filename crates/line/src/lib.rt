@@ -4,12 +4,31 @@ ghost use lib.ListN.{length};
 ghost use Rattle.line.specs.Bit.{bitAt, field, octetAt};
 ghost use Rattle.line.specs.Window.{lowFirst, turned};
 
+// bit o of octet i
+pub fn bit_in(s: &[u8], i: usize, o: usize) -> u8
+    requires { ⌜ (i < length (now s)) × (o < 8) ⌝ }
+    ensures { λ r. ⌜ (r ≡ bitAt (now (s .entry)) (8 * i + o)) × (r < 2) ⌝ }
+{
+    (s[i] >> (7 - o)) & 1
+}
+
 // the bit at place p
 pub fn bit(s: &[u8], p: usize) -> u8
     requires { ⌜ p < 8 * length (now s) ⌝ }
     ensures { λ r. ⌜ (r ≡ bitAt (now (s .entry)) p) × (r < 2) ⌝ }
 {
-    (s[p >> 3] >> (7 - (p & 7))) & 1
+    bit_in(s, p >> 3, p & 7)
+}
+
+// the octet that the eight bits from bit o of octet i on spell
+pub fn octet_in(s: &[u8], i: usize, o: usize) -> u8
+    requires { ⌜ (8 * i + o + 8 ≤ 8 * length (now s)) × (o < 8) ⌝ }
+    ensures { λ r. ⌜ r ≡ octetAt (now (s .entry)) (8 * i + o) ⌝ }
+{
+    if o == 0 {
+        return s[i];
+    }
+    (s[i] << o) | (s[i + 1] >> (8 - o))
 }
 
 // the octet that the eight bits from place p on spell
@@ -17,12 +36,7 @@ pub fn octet(s: &[u8], p: usize) -> u8
     requires { ⌜ p + 8 ≤ 8 * length (now s) ⌝ }
     ensures { λ r. ⌜ r ≡ octetAt (now (s .entry)) p ⌝ }
 {
-    let i = p >> 3;
-    let o = p & 7;
-    if o == 0 {
-        return s[i];
-    }
-    (s[i] << o) | (s[i + 1] >> (8 - o))
+    octet_in(s, p >> 3, p & 7)
 }
 
 // the seven bits from place p + 1 on, of the octet at p

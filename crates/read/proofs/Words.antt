@@ -1,5 +1,5 @@
 -- The words of the even frames, as one pass judges them.
-use Prim.Native.Nat.{ℕ, _+_, _-_, _*_, _/_, _%_, _≤_, _<_}
+use Prim.Native.Nat.{ℕ, _+_, _-_, _*_, _≤_, _<_}
 use mathlib.Core.Path.{_≡_, refl, sym, ap, ap₂, _∙_}
 use mathlib.Core.Bool.{Bool, true, false, _&&_, not}
 use mathlib.Core.List.{List}
@@ -19,34 +19,22 @@ abbrev pub wrongBefore : List ℕ → ℕ → ℕ → ℕ → Bool
 wrongBefore s q k i = leb k i && wrong s q (i - k)
 
 -- what is remembered before the word of frame 2i
-pub record Passed (s : List ℕ) (q i : ℕ) (earlier last : Bool) (n bits words wordbits : ℕ) : Type 0 where
+pub record Passed (s : List ℕ) (q i : ℕ) (earlier last : Bool) (n bits : ℕ) : Type 0 where
   pub its-earlier : earlier ≡ wrongBefore s q 2 i
   pub its-last : last ≡ wrongBefore s q 1 i
   pub its-count : n ≡ count i (wrong s q)
   pub its-bits : bits ≡ sum i (wrongBitsOf s q)
-  pub its-words : words ≡ wordErrors s q (i / 8)
-  pub its-wordbits : wordbits ≡ wordBits s q (i / 8)
   pub no-loss : least i (threeWrong s q) ≡ none
 
--- what is summed over the words of whole multiframes: where one more is whole, and where none is
-module _ (f : ℕ → ℕ) (i n : ℕ) where
-  pub whole-more : i % 8 ≡ 7 → n ≡ sum (i + 1) f → n ≡ sum (8 * ((i + 1) / 8)) f
-  whole-more h e = let d : i + 1 ≡ 8 * ((i + 1) / 8) = omega arith in e ∙ ap (λ x. sum x f) d
-
-  pub whole-kept : (i % 8 ≡ 7 → ⊥) → n ≡ sum (8 * (i / 8)) f → n ≡ sum (8 * ((i + 1) / 8)) f
-  whole-kept h e = let d : i / 8 ≡ (i + 1) / 8 = omega arith in e ∙ ap (λ x. sum (8 * x) f) d
-
 module _ (s : List ℕ) (q : ℕ) where
-  pub none-passed : Passed s q 0 false false 0 0 0 0
-  unfolding wordErrors wordBits first sum
+  pub none-passed : Passed s q 0 false false 0 0
+  unfolding first sum
   none-passed =
       record {
         its-earlier = refl;
         its-last = refl;
         its-count = refl;
         its-bits = refl;
-        its-words = refl;
-        its-wordbits = refl;
         no-loss = refl;
       }
 
@@ -72,8 +60,7 @@ module _ (s : List ℕ) (q : ℕ) where
       let e : i - 1 ≡ i + 1 - 2 = omega arith in
       ap₂ (λ b x. b && wrong s q x) (sym (ap (leb 2) (add-one i) ∙ leb·suc-suc 1 i)) e
 
-module _ {s : List ℕ} {q i : ℕ} {earlier last : Bool} {n bits words wordbits : ℕ}
-    (p : Passed s q i earlier last n bits words wordbits) where
+module _ {s : List ℕ} {q i : ℕ} {earlier last : Bool} {n bits : ℕ} (p : Passed s q i earlier last n bits) where
   pub count-below : n ≤ i
   count-below = omega (arith, count-le i (wrong s q), p .its-count)
 
@@ -83,6 +70,12 @@ module _ {s : List ℕ} {q i : ℕ} {earlier last : Bool} {n bits words wordbits
 
   pub bits-more : {w : ℕ} → w ≡ wrongBitsOf s q i → bits + w ≡ sum (i + 1) (wrongBitsOf s q)
   bits-more e = ap₂ _+_ (p .its-bits) e ∙ sym (sum-more i (wrongBitsOf s q))
+
+  -- g multiframes are passed: what is counted is theirs
+  pub multiframes-passed : (g : ℕ) → i ≡ 8 * g → (n ≡ wordErrors s q g) × (bits ≡ wordBits s q g)
+  unfolding wordErrors wordBits
+  multiframes-passed g e =
+      (p .its-count ∙ ap (λ x. count x (wrong s q)) e, p .its-bits ∙ ap (λ x. sum x (wrongBitsOf s q)) e)
 
   pub never-lost : (m : ℕ) → 8 * m ≤ i → loss s q m ≡ none
   unfolding loss
@@ -103,19 +96,13 @@ module _ {s : List ℕ} {q i : ℕ} {earlier last : Bool} {n bits words wordbits
     pub count-right : this ≡ false → n ≡ count (i + 1) (wrong s q)
     count-right e = p .its-count ∙ sym (count-no i (wrong s q) (sym t ∙ e))
 
-    pub word-more : earlier && (last && this) ≡ false → {n' bits' words' wordbits' : ℕ}
-        → n' ≡ count (i + 1) (wrong s q)
-        → bits' ≡ sum (i + 1) (wrongBitsOf s q)
-        → words' ≡ wordErrors s q ((i + 1) / 8)
-        → wordbits' ≡ wordBits s q ((i + 1) / 8)
-        → Passed s q (i + 1) last this n' bits' words' wordbits'
-    word-more f k b w v =
+    pub word-more : earlier && (last && this) ≡ false → {n' bits' : ℕ} → n' ≡ count (i + 1) (wrong s q)
+        → bits' ≡ sum (i + 1) (wrongBitsOf s q) → Passed s q (i + 1) last this n' bits'
+    word-more f k b =
         record {
           its-earlier = p .its-last ∙ earlier-more s q i;
           its-last = t ∙ last-more s q i;
           its-count = k;
           its-bits = b;
-          its-words = w;
-          its-wordbits = v;
           no-loss = least-more i (threeWrong s q) (p .no-loss) (sym loss-test ∙ f);
         }

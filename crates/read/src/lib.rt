@@ -56,27 +56,27 @@ fn track(s: &[u8], q: usize, m: usize) -> Tracked
     let mut bits: usize = 0;
     let mut words: usize = 0;
     let mut wordbits: usize = 0;
-    for i in 0..8 * m {
-        let wrong = e1::wrong_bits(s, q + 256 * (2 * i));
-        let this = wrong != 0;
-        if earlier & (last & this) {
-            return Tracked {
-                lost: 2 * i,
-                used: i / 8,
-                words: words,
-                wordbits: wordbits,
-            };
+    for g in 0..m {
+        for i in 8 * g..8 * g + 8 {
+            let wrong = e1::wrong_bits(s, q + 256 * (2 * i));
+            let this = wrong != 0;
+            if earlier & (last & this) {
+                return Tracked {
+                    lost: 2 * i,
+                    used: g,
+                    words: words,
+                    wordbits: wordbits,
+                };
+            }
+            if this {
+                n += 1;
+            }
+            bits += wrong as usize;
+            earlier = last;
+            last = this;
         }
-        if this {
-            n += 1;
-        }
-        bits += wrong as usize;
-        if i % 8 == 7 {
-            words = n;
-            wordbits = bits;
-        }
-        earlier = last;
-        last = this;
+        words = n;
+        wordbits = bits;
     }
     Tracked {
         lost: 0,
@@ -147,8 +147,10 @@ fn slot0_of(s: &[u8], q: usize, g: usize, out: &mut [u8])
     requires { ⌜ Room (now s) q (4096 * g) × (16 * g ≤ length (now out)) ⌝ }
     ensures { λ _. ⌜ now (out .exit) ≡ slot0Of (now (s .entry)) q g ++ drop (16 * g) (now (out .entry)) ⌝ }
 {
+    let i = q >> 3;
+    let o = q & 7;
     for f in 0..16 * g {
-        let v = line::octet(s, q + 256 * f);
+        let v = line::octet_in(s, i + 32 * f, o);
         out[f] = v;
     }
 }
@@ -174,18 +176,24 @@ fn zeros_e(s: &[u8], q: usize, m: usize) -> usize
     ((1 - a) + (1 - b)) as usize
 }
 
-// the blocks compared, those that differ, and the E bits that count; each check is taken once
+// the blocks compared, those that differ, and the E bits that count; each check is taken once, and what a block carries
+// is read once
 fn judge(s: &[u8], q: usize, g: usize) -> Judged
-    requires { ⌜ Room (now s) q (4096 * g) ⌝ }
+    requires { ⌜ Room (now s) q (4096 * g) × Room (now s) q 2048 ⌝ }
     ensures { λ r. ⌜ (r .compared ≡ compared g)
         × (r .errored ≡ errored (now (s .entry)) q g)
         × (r .farend ≡ farEnd (now (s .entry)) q g) ⌝ }
 {
     let n = compared(g);
+    let table = crc::table::remainders();
+    let mut carried = e1::carried(s, q);
     let mut errored: usize = 0;
     let mut farend: usize = 0;
     for b in 0..n {
-        if !e1::agrees(s, q + 2048 * b) {
+        let p = q + 2048 * b;
+        let check = e1::block_check(s, p, carried, &table);
+        carried = e1::carried(s, p + 2048);
+        if check != carried {
             errored += 1;
         } else if b % 2 == 1 {
             farend += zeros_e(s, q, b / 2);
@@ -230,9 +238,9 @@ fn read_from(image: &[u8], place: usize, k: usize, payload: &mut [u8], slot0: &m
     if (payload.len() < 496 * used) | (slot0.len() < 16 * used) {
         return refused(4);
     }
+    let judged = judge(image, start, used);
     payload_of(image, start, used, payload);
     slot0_of(image, start, used, slot0);
-    let judged = judge(image, start, used);
     Reading {
         number: 0,
         place: place,

@@ -88,20 +88,27 @@ unfolding carries
 carries-lt p o c zero h = h
 carries-lt p o c (suc b) h = block-check-lt (block p o (carries p o c b) b) 0
 
--- a block's check is that of its octets
-check-of-octets : (s t : List ℕ) (b : ℕ) → ((i : ℕ) → i < 256 → getD s (256 * b + i) 0 ≡ getD t i 0)
-    → blockCheck s (2048 * b) ≡ blockCheck t 0
-unfolding blockCheck
-check-of-octets s t b h =
-    ap (check 4)
-    (striped-agree 512 0 2048 (λ i. bitAt s (2048 * b + i)) (λ i. bitAt t (0 + i))
-    (λ i hi z.
-    let q = i / 8 in
-    let r = i % 8 in
-    let e₁ : 2048 * b + i ≡ 8 * (256 * b + q) + r = omega arith in
-    let e₂ : 0 + i ≡ 8 * q + r = omega arith in
-    ap (bitAt s) e₁ ∙ bit-in s (256 * b + q) r (omega arith) ∙ ap (λ x. x / 2 ^ (7 - r) % 2) (h q (omega arith))
-    ∙ sym (ap (bitAt t) e₂ ∙ bit-in t q r (omega arith))))
+-- a block's check, and the one that it carries, are those of its octets
+module _ (s t : List ℕ) (b : ℕ) (h : (i : ℕ) → i < 256 → getD s (256 * b + i) 0 ≡ getD t i 0) where
+  bit-of-octets : (i : ℕ) → i < 2048 → bitAt s (2048 * b + i) ≡ bitAt t (0 + i)
+  bit-of-octets i hi =
+      let q = i / 8 in
+      let r = i % 8 in
+      let e₁ : 2048 * b + i ≡ 8 * (256 * b + q) + r = omega arith in
+      let e₂ : 0 + i ≡ 8 * q + r = omega arith in
+      ap (bitAt s) e₁ ∙ bit-in s (256 * b + q) r (omega arith) ∙ ap (λ x. x / 2 ^ (7 - r) % 2) (h q (omega arith))
+      ∙ sym (ap (bitAt t) e₂ ∙ bit-in t q r (omega arith))
+
+  check-of-octets : blockCheck s (2048 * b) ≡ blockCheck t 0
+  unfolding blockCheck
+  check-of-octets =
+      ap (check 4)
+      (striped-agree 512 0 2048 (λ i. bitAt s (2048 * b + i)) (λ i. bitAt t (0 + i)) (λ i hi z. bit-of-octets i hi))
+
+  carried-of-octets : carried s (2048 * b) ≡ carried t 0
+  unfolding carried
+  carried-of-octets =
+      spelt-agree 4 (λ j. bitAt s (2048 * b + 512 * j)) (λ j. bitAt t (0 + 512 * j)) (λ j l. bit-of-octets (512 * j) (omega arith))
 
 -- the check of block b
 pub check-at : (p o : List ℕ) (c n b : ℕ) → b < n → blockCheck (written p o c n) (2048 * b) ≡ carries p o c (suc b)
@@ -117,6 +124,25 @@ even-slot0 k i x = let e : 2 * i % 2 ≡ 0 = omega arith in rw e
 odd-slot0 : (k i x : ℕ) → slot0 k (2 * i + 1) x ≡ oddSlot0 (bit1 (2 * i + 1) x) x
 unfolding slot0
 odd-slot0 k i x = let e : (2 * i + 1) % 2 ≡ 1 = omega arith in rw e
+
+-- the check bits of a block carry the check that is given
+pub block-carries : (p o : List ℕ) (k b : ℕ) → k < 16 → carried (block p o k b) 0 ≡ k
+unfolding carried block
+block-carries p o k b hk = spelt-agree 4 (λ j. bitAt (block p o k b) (0 + 512 * j)) (digit 4 k) at ∙ spelt-digits 4 k hk
+  where
+    at : (j : ℕ) → j < 4 → bitAt (block p o k b) (0 + 512 * j) ≡ digit 4 k j
+    at j l =
+        let f = 4 * b + j in
+        let e₀ : 0 + 512 * j ≡ 8 * (64 * j) + 0 = omega arith in
+        let e₁ : 8 * b + 64 * j / 32 ≡ 2 * f = omega arith in
+        let e₂ : 64 * j % 32 ≡ 0 = omega arith in
+        let e₃ : 2 * f / 2 % 4 ≡ j = omega arith in
+        let d : (128 * checkBit k (2 * f) + 27) / 128 % 2 ≡ checkBit k (2 * f) = omega arith in
+        ap (bitAt (block p o k b)) e₀ ∙ bit-in (block p o k b) (64 * j) 0 (lit< tt)
+        ∙ ap (λ x. x / 128 % 2)
+        (getD-tab 256 (λ i. octetIn p o k (8 * b + i / 32) (i % 32)) (64 * j) 0 (omega arith) ∙ ap₂ (octetIn p o k) e₁ e₂
+        ∙ even-slot0 k f (getD o (2 * f / 2) 0))
+        ∙ d ∙ ap (λ x. k / 2 ^ (3 - x) % 2) e₃
 
 either-lt : (t : Bool) {a b m : ℕ} → a < m → b < m → cond t a b < m
 either-lt true ha hb = ha
@@ -205,13 +231,6 @@ module _ {p o : List ℕ} {c n : ℕ} (g : Inputs p o c n) where
         word-holds line (frameAt 0 (2 * i)) .1
         (field-of (2 * i) (frameAt 0 (2 * i) + 1) 1 (omega arith) refl 7 0 refl ∙ ap (λ y. y / 1 % 128) even-at ∙ d)
 
-    -- a check bit
-    pub check-bit-at : bitAt line (frameAt 0 (2 * i)) ≡ checkBit (carries p o c (i / 4)) (2 * i)
-    check-bit-at =
-        let b = checkBit (carries p o c (i / 4)) (2 * i) in
-        let d : (128 * b + 27) / 128 % 2 ≡ b = omega arith in
-        bit-of (2 * i) (frameAt 0 (2 * i)) 0 (omega arith) (omega arith) (lit< tt) ∙ ap (λ y. y / 128 % 2) even-at ∙ d
-
   -- the odd frame 2i + 1, whose overhead octet is x
   module _ (i : ℕ) (h : i < 8 * n) where
     abbrev x : ℕ
@@ -269,20 +288,9 @@ module _ {p o : List ℕ} {c n : ℕ} (g : Inputs p o c n) where
 
   -- the check bits of block b carry the check of the block before it
   pub carried-at : (b : ℕ) → b < 2 * n → carried line (2048 * b) ≡ carries p o c b
-  unfolding carried
   carried-at b h =
-      let k = carries p o c b in
-      spelt-agree 4 (λ t. bitAt line (2048 * b + 512 * t)) (digit 4 k) at
-      ∙ spelt-digits 4 k (carries-lt p o c b (g .four-bits))
-    where
-      at : (t : ℕ) → t < 4 → bitAt line (2048 * b + 512 * t) ≡ carries p o c b / 2 ^ (3 - t) % 2
-      at t l =
-          let i = 4 * b + t in
-          let e₀ : 2048 * b + 512 * t ≡ frameAt 0 (2 * i) = omega arith in
-          let e₁ : i / 4 ≡ b = omega arith in
-          let e₂ : 2 * i / 2 ≡ i = omega arith in
-          let e₃ : i % 4 ≡ t = omega arith in
-          ap (bitAt line) e₀ ∙ check-bit-at i (omega arith) ∙ rw (e₁, e₂, e₃)
+      carried-of-octets line (block p o (carries p o c b) b) b (λ i hi. block-octet-at p o c (2 * n) b i h hi)
+      ∙ block-carries p o (carries p o c b) b (carries-lt p o c b (g .four-bits))
 
   -- every block but the last agrees with the check that is carried after it
   pub agrees-at : (b : ℕ) → b + 1 < 2 * n → agrees line (2048 * b) ≡ true

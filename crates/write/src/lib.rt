@@ -6,6 +6,7 @@ ghost use Prim.Native.Nat.{_-_, _*_, _^_, _<_, _≤_};
 ghost use lib.Dec.{eqb};
 ghost use lib.ListN.{length, getD, drop};
 ghost use Rattle.base.specs.Tab.{tab};
+ghost use Rattle.crc.specs.Fold.{remainders};
 ghost use Rattle.e1.specs.Block.{blockCheck};
 ghost use Rattle.write.specs.Writing.{bit1, slot0, block, carries, written};
 ghost use Rattle.write.specs.Entry.{overheadLimit, overheadFits, refusal, Wrote};
@@ -68,8 +69,15 @@ fn write_frame(slot: u8, payload: &[u8], out: &mut [u8])
 }
 
 // block b, 0 or 1, of a multiframe, which carries the check k: its frames, and its check
-fn write_block(payload: &[u8], overhead: &[u8], k: u8, b: usize, out: &mut [u8]) -> u8
-    requires { ⌜ Inputs (now payload) (now overhead) k 1 × (b < 2) × (length (now out) ≡ 256) ⌝ }
+fn write_block(
+    payload: &[u8],
+    overhead: &[u8],
+    k: u8,
+    b: usize,
+    out: &mut [u8],
+    table: &[[u8; 256]; 16],
+) -> u8
+    requires { ⌜ Inputs (now payload) (now overhead) k 1 × (b < 2) × (length (now out) ≡ 256) × (now table ≡ remainders) ⌝ }
     ensures { λ _. ⌜ now (out .exit) ≡ block (now (payload .entry)) (now (overhead .entry)) k b ⌝ }
     ensures { λ r. ⌜ (r ≡ blockCheck (now (out .exit)) 0) × (r < 16) ⌝ }
 {
@@ -80,17 +88,23 @@ fn write_block(payload: &[u8], overhead: &[u8], k: u8, b: usize, out: &mut [u8])
         let a = 32 * i;
         write_frame(slot, &payload[p..p + 31], &mut out[a..a + 32]);
     }
-    e1::block_check(out, 0)
+    e1::block_check(out, 0, k, table)
 }
 
 // a multiframe, whose first block carries the check k: its blocks, and the check of the second
-fn write_multiframe(payload: &[u8], overhead: &[u8], k: u8, out: &mut [u8]) -> u8
-    requires { ⌜ Inputs (now payload) (now overhead) k 1 × (length (now out) ≡ 512) ⌝ }
+fn write_multiframe(
+    payload: &[u8],
+    overhead: &[u8],
+    k: u8,
+    out: &mut [u8],
+    table: &[[u8; 256]; 16],
+) -> u8
+    requires { ⌜ Inputs (now payload) (now overhead) k 1 × (length (now out) ≡ 512) × (now table ≡ remainders) ⌝ }
     ensures { λ _. ⌜ now (out .exit) ≡ written (now (payload .entry)) (now (overhead .entry)) k 2 ⌝ }
     ensures { λ r. ⌜ r ≡ carries (now (payload .entry)) (now (overhead .entry)) k 2 ⌝ }
 {
-    let c = write_block(payload, overhead, k, 0, &mut out[0..256]);
-    write_block(payload, overhead, c, 1, &mut out[256..512])
+    let c = write_block(payload, overhead, k, 0, &mut out[0..256], table);
+    write_block(payload, overhead, c, 1, &mut out[256..512], table)
 }
 
 // n multiframes, each with its part of the payload, of the overhead and of the output, and the check of the last block
@@ -100,6 +114,7 @@ fn write_all(payload: &[u8], overhead: &[u8], k: u8, n: usize, out: &mut [u8]) -
         ≡ written (now (payload .entry)) (now (overhead .entry)) k (2 * n) ++ drop (512 * n) (now (out .entry)) ⌝ }
     ensures { λ r. ⌜ r ≡ carries (now (payload .entry)) (now (overhead .entry)) k (2 * n) ⌝ }
 {
+    let table = crc::table::remainders();
     let mut c = k;
     for m in 0..n {
         let p = 496 * m;
@@ -110,6 +125,7 @@ fn write_all(payload: &[u8], overhead: &[u8], k: u8, n: usize, out: &mut [u8]) -
             &overhead[h..h + 8],
             c,
             &mut out[a..a + 512],
+            &table,
         );
     }
     c

@@ -1,47 +1,16 @@
--- `after_octet` meets its contract: at the head of the loop x is the remainder after the first i bits.
-use Prim.Native.Nat.{ℕ, _-_, _/_, _%_, _^_, _≤_, _<_}
-use mathlib.Core.Path.{_≡_, refl, sym, ap, _∙_}
+-- `after_octet` meets its contract: the table's rule at the entry.
 use native.Mathlib.Omega.{arith}
-use Rattle.line.specs.Bit.{octetBits}
-use Rattle.base.specs.Tab.{tab, tabFrom}
-use Rattle.crc.specs.Remainder.{after}
-use Rattle.crc.proofs.Laws.{after-more}
+use borrow.Author.Needs.{needs}
+use Rattle.crc.proofs.TableLaws.{table-rule, octet-lt}
 use Rattle.crc.proofs.after_octet.Statement.{statement}
 use Rattle.crc.proofs.after_octet.Tie as tie
 
-abbrev Inv-loop : tie.InvT-loop
-Inv-loop r o x₀ i₀ x i = (i ≤ 8) × (x < 16) × (x ≡ after 4 r (tab i (λ j. o / 2 ^ (7 - j) % 2)))
-
-abbrev μ-loop : tie.MeasureT-loop
-μ-loop r o x₀ i₀ x i = 8 - i
-
-loop-again : tie.Need-loop-again Inv-loop μ-loop
-loop-again c =
-    let l = c .before .before in
-    let a = l .before .args in
-    let i = l .loop .i in
-    let f : ℕ → ℕ = λ j. a .o / 2 ^ (7 - j) % 2 in
-    let b = c .after-bit in
-    (omega arith, b .ensures .1, rw (b .ensures .0, l .loop .inv .2) (sym (after-more 4 (a .r) i f)))
-
-returns : tie.Need-returns Inv-loop μ-loop
-unfolding octetBits
+returns : tie.Need-returns
 returns c =
-    let l = c .before in
-    let a = l .before .args in
-    let e : l .loop .i ≡ 8 = omega arith in
-    (l .loop .inv .2 ∙ ap (λ i. after 4 (a .r) (tab i (λ j. a .o / 2 ^ (7 - j) % 2))) e, omega arith)
+    let a = c .before .args in
+    let p = c .before .pre in
+    let e = table-rule (a .table .now) (a .r) (a .o) (p .1) (p .0) (search needs) in
+    (e, omega (arith, e, octet-lt (a .r) (a .o) (p .0)))
 
 pub after-octet-spec : {M : Type 1} → statement M
-unfolding after tabFrom
-after-octet-spec =
-    tie.close
-    (tie.spec Inv-loop μ-loop
-    (λ c. (omega arith, omega arith, refl))
-    (omega arith)
-    (omega arith)
-    (λ c κs. omega arith)
-    (omega arith)
-    (omega arith)
-    loop-again
-    returns)
+after-octet-spec = tie.close (tie.spec (search needs) (search needs) (search needs) returns)

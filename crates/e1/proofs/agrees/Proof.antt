@@ -7,7 +7,9 @@ use Rattle.e1.proofs.agrees.Tie as tie
 
 returns : tie.Need-returns
 unfolding agrees
-returns c = rw (c .before .block-check .ensures .0, c .carried .ensures) refl
+returns c = rw (c .before .block-check .ensures .0, c .carried2 .ensures) refl
 
 pub agrees-spec : {M : Type 1} → statement M
-agrees-spec = tie.close (tie.spec (search needs) (search needs) (search needs) returns)
+agrees-spec =
+    tie.close
+    (tie.spec (search needs) (λ c κs. (search needs, c .carried .ensures, c .before .before .pre .1)) (search needs) (search needs) returns)

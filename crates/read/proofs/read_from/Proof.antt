@@ -53,9 +53,10 @@ fits c =
 
 returns-2 : tie.Need-returns-2
 returns-2 c =
-    let z = c .before .before .before in
+    let z = c .before .before in
     let y = z .before .before .before .before in
-    let e = y .before .before in
+    let j = y .before .before in
+    let e = j .before in
     let t = e .before in
     let d = t .before .before .before .before in
     let s = d .args .image .now in
@@ -68,9 +69,9 @@ returns-2 c =
     refl refl refl refl refl
     (t .track .ensures .0)
     (t .track .ensures .2)
-    (c .judge .ensures .0)
-    (c .judge .ensures .1)
-    (c .judge .ensures .2)
+    (j .judge .ensures .0)
+    (j .judge .ensures .1)
+    (j .judge .ensures .2)
     (t .track .ensures .3)
     (y .payload-of .ensures)
     (z .slot0-of .ensures)
@@ -88,9 +89,11 @@ read-from-spec =
     (λ c. omega (arith, facts c .room .there, roomy (c .before .before .before .before)))
     (search needs)
     returns
-    (λ c κs. (facts (c .before .before) .room, fits (c .before) .0))
-    (λ c κs. (facts (c .before .before .before .before .before .before) .room, fits (c .before .before .before .before .before) .1))
-    (λ c κs. facts (c .before .before .before .before .before .before .before .before .before) .room)
+    (λ c κs.
+    let r = roomy (c .before .before .before .before .before) in
+    (facts (c .before) .room, record { countable = omega arith; there = omega arith }))
+    (λ c κs. (facts (c .before .before .before) .room, fits (c .before .before) .0))
+    (λ c κs. (facts (c .before .before .before .before .before .before .before) .room, fits (c .before .before .before .before .before .before) .1))
     (search needs)
     (search needs)
     returns-2)

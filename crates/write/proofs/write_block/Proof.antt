@@ -1,21 +1,22 @@
 -- `write_block` meets its contract: at the head of the loop the frames before i are written.
 use Prim.Native.Nat.{_+_, _-_, _*_, _/_, _≤_}
-use mathlib.Core.Path.{_≡_, refl}
+use mathlib.Core.Path.{_≡_, refl, sym, ap, _∙_}
 use native.Mathlib.Omega.{arith}
 use borrow.Author.Needs.{needs}
 use lib.ListN.{length, take}
 use Rattle.base.specs.Tab.{tab, tabFrom}
-use Rattle.write.proofs.Laws.{overhead-lt}
+use Rattle.e1.specs.Block.{carried}
+use Rattle.write.proofs.Laws.{overhead-lt, block-carries}
 use Rattle.write.proofs.Parts.{blockOctet, block-more, block-done}
 use Rattle.write.proofs.write_block.Statement.{statement}
 use Rattle.write.proofs.write_block.Tie as tie
 
 abbrev Inv-loop : tie.InvT-loop
-Inv-loop payload overhead k b out₀ i₀ out i =
+Inv-loop payload overhead k b out₀ table i₀ out i =
     (i ≤ 8) × (length out ≡ 256) × (take (32 * i) out ≡ tab (32 * i) (blockOctet payload overhead k b))
 
 abbrev μ-loop : tie.MeasureT-loop
-μ-loop payload overhead k b out₀ i₀ out i = 8 - i
+μ-loop payload overhead k b out₀ table i₀ out i = 8 - i
 
 loop-holds : tie.Need-loop-holds Inv-loop μ-loop
 unfolding tabFrom
@@ -38,6 +39,17 @@ loop-again c =
           (omega arith) (s .slot-0 .ensures) (w .write-frame .ensures) (l .loop .inv .2),
     )
 
+-- the block that is written carries k
+block-check-requires : tie.Need-block-check-requires Inv-loop μ-loop
+block-check-requires c κs =
+    let l = c .before .before in
+    let s = l .before .before .before .before in
+    let a = s .args in
+    let e = block-done (a .payload .now) (a .overhead .now) (a .k) (a .b) (l .loop .i) (l .loop .out) (omega arith)
+    (l .loop .inv .1) (l .loop .inv .2) in
+    let k = block-carries (a .payload .now) (a .overhead .now) (a .k) (a .b) (s .pre .0 .four-bits) in
+    (search needs, sym (ap (λ out. carried out 0) e ∙ k), s .pre .3)
+
 returns : tie.Need-returns Inv-loop μ-loop
 returns c =
     let l = c .before .before .before in
@@ -53,4 +65,5 @@ write-block-spec =
     loop-holds (omega arith) (omega arith) (omega arith) slot-0-requires (omega arith) (omega arith)
     (omega arith) (omega arith) (omega arith) (omega arith)
     (omega arith) (omega arith) (omega arith) (omega arith)
-    (λ c κs. (search needs, search needs)) (omega arith) (omega arith) loop-again (search needs) (omega arith) returns)
+    (λ c κs. (search needs, search needs)) (omega arith) (omega arith) loop-again
+    block-check-requires (omega arith) returns)

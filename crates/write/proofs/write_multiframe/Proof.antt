@@ -6,12 +6,13 @@ use Rattle.write.proofs.write_multiframe.Statement.{statement}
 use Rattle.write.proofs.write_multiframe.Tie as tie
 
 write-block-requires : tie.Need-write-block-requires
-write-block-requires c κs = let s = c .before .before .before .before in (s .pre .0, omega arith, search needs)
+write-block-requires c κs = let s = c .before .before .before .before in (s .pre .0, omega arith, search needs, s .pre .2)
 
 write-block-requires-2 : tie.Need-write-block-requires-2
 write-block-requires-2 c κs =
     let w = c .before .before .before in
-    let g = w .before .before .before .before .before .pre .0 in (
+    let p = w .before .before .before .before .before .pre in
+    let g = p .0 in (
       record {
         payload-length = g .payload-length;
         overhead-length = g .overhead-length;
@@ -20,6 +21,7 @@ write-block-requires-2 c κs =
       },
       omega arith,
       search needs,
+      p .2,
     )
 
 returns : tie.Need-returns
