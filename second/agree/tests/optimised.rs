@@ -2,6 +2,7 @@
 
 use agree::seed;
 use given::Random;
+use optimised::{chain, fold, Check};
 use oracle::check::check;
 use oracle::line::{bits, number, BLOCK};
 
@@ -10,7 +11,16 @@ const CHECKS: u64 = 4_000;
 
 #[test]
 fn reads() {
-    agree::reads("the optimised form", optimised::read);
+    agree::reads("the optimised form", |image, payload, slot0| {
+        optimised::read(image, payload, slot0, chain::check)
+    });
+}
+
+#[test]
+fn reads_folded() {
+    agree::reads("the folded form", |image, payload, slot0| {
+        optimised::read(image, payload, slot0, fold::check)
+    });
 }
 
 #[test]
@@ -20,7 +30,16 @@ fn whys() {
 
 #[test]
 fn writes() {
-    agree::writes("the optimised form", optimised::write);
+    agree::writes("the optimised form", |payload, overhead, carried, out| {
+        optimised::write(payload, overhead, carried, out, chain::check)
+    });
+}
+
+#[test]
+fn writes_folded() {
+    agree::writes("the folded form", |payload, overhead, carried, out| {
+        optimised::write(payload, overhead, carried, out, fold::check)
+    });
 }
 
 #[test]
@@ -41,16 +60,25 @@ fn maps() {
     }
 }
 
-/// At every bit place, with any bits before and behind.
 #[test]
 fn checks() {
-    let seed = seed(&format!("{CHECKS} blocks at 8 places, the optimised form"));
+    blocks("the optimised form", chain::check);
+}
+
+#[test]
+fn checks_folded() {
+    blocks("the folded form", fold::check);
+}
+
+/// At every bit place, with any bits before and behind.
+fn blocks(form: &str, other: Check) {
+    let seed = seed(&format!("{CHECKS} blocks at 8 places, {form}"));
     for item in 0..CHECKS {
         let octets = Random::new(seed, item).octets(257);
         for o in 0..8 {
             let block = &bits(&octets)[o..o + BLOCK];
             let check = number(&check(block));
-            assert_eq!(optimised::check(&octets, o), check, "item {item}, bit {o}");
+            assert_eq!(other(&octets, o), check, "item {item}, bit {o}");
         }
     }
 }

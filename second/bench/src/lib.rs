@@ -4,6 +4,7 @@
 
 use given::making::{densest, false_starts, shifted, wrong_signals};
 use given::Random;
+use optimised::{chain, fold, Check};
 use oracle::{read, why, write, Exchange};
 use std::arch::asm;
 use std::env;
@@ -42,17 +43,26 @@ pub fn plain() -> Form {
     }
 }
 
-/// The form that is the mark.
+/// The form that is the mark, with the chained check.
 pub fn optimised() -> Form {
+    with_check("optimised", chain::check)
+}
+
+/// The same with the folded check.
+pub fn folded() -> Form {
+    with_check("folded", fold::check)
+}
+
+fn with_check(name: &'static str, check: Check) -> Form {
     let exchange = exchange();
     Form {
-        name: "optimised",
-        read: Box::new(|image, payload, slot0| {
-            hidden(optimised::read(image, payload, slot0)).number
+        name,
+        read: Box::new(move |image, payload, slot0| {
+            hidden(optimised::read(image, payload, slot0, check)).number
         }),
         why: Box::new(|image, place| hidden(optimised::why(image, place)).number),
-        write: Box::new(|payload, overhead, check, out| {
-            hidden(optimised::write(payload, overhead, check, out)).number
+        write: Box::new(move |payload, overhead, carried, out| {
+            hidden(optimised::write(payload, overhead, carried, out, check)).number
         }),
         map: Box::new(move |payload, out| optimised::map(&exchange, payload, out)),
     }

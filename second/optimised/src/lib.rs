@@ -1,22 +1,26 @@
 //! Reading, asking why, writing and mapping once more, as fast as safe Rust has
 //! them here: many places in one window of 64 bits, checks by folding, octets
 //! moved by the frame. The mark that the proved library's times are held to; the
-//! agreement tests hold it to the oracle.
+//! agreement tests hold it to the oracle. Reading and writing take the check of
+//! [`chain`] or that of [`fold`]; nothing else differs.
 
 #![forbid(unsafe_code)]
 
-mod check;
+pub mod chain;
+pub mod fold;
 mod mapping;
 mod place;
 mod reading;
 mod why;
 mod writing;
 
-pub use check::check;
 pub use mapping::map;
 pub use reading::read;
 pub use why::why;
 pub use writing::write;
+
+/// The check of a block, as [`chain::check`] says.
+pub type Check = fn(&[u8], usize) -> u8;
 
 /// The 64 bits from octet i on, the first the highest.
 #[inline]

@@ -1,9 +1,9 @@
 //! Reading from the start. Slot 0 is gathered first, as loss, words, checks
 //! and E bits are all in it; then payload and blocks go by once.
 
-use crate::check::check;
 use crate::place;
 use crate::window;
+use crate::Check;
 use oracle::Reading;
 
 fn refused(number: u64) -> Reading {
@@ -13,8 +13,8 @@ fn refused(number: u64) -> Reading {
     }
 }
 
-/// As [`oracle::read`].
-pub fn read(image: &[u8], payload: &mut [u8], slot0: &mut [u8]) -> Reading {
+/// As [`oracle::read`], by this check.
+pub fn read(image: &[u8], payload: &mut [u8], slot0: &mut [u8], check: Check) -> Reading {
     if image.len() < 2_048 {
         return refused(1);
     }
@@ -40,7 +40,7 @@ pub fn read(image: &[u8], payload: &mut [u8], slot0: &mut [u8]) -> Reading {
     let (slots, wrong) = (&slots[..16 * used], &wrong[..8 * used]);
     slot0[..16 * used].copy_from_slice(slots);
     take(line, o, &mut payload[..496 * used]);
-    let (errored, farend) = compare(line, o, slots);
+    let (errored, farend) = compare(line, o, slots, check);
     Reading {
         number: 0,
         place: p as u64,
@@ -135,7 +135,7 @@ fn carried(slots: &[u8], b: usize) -> u8 {
 }
 
 /// Blocks errored, and far-end errors.
-fn compare(line: &[u8], o: usize, slots: &[u8]) -> (u64, u64) {
+fn compare(line: &[u8], o: usize, slots: &[u8], check: Check) -> (u64, u64) {
     let (mut errored, mut farend) = (0, 0);
     for b in 1..slots.len() / 8 {
         let agreed = check(&line[256 * (b - 1)..], o) == carried(slots, b);

@@ -1,6 +1,6 @@
 //! Writing multiframes: all slots first, then the checks, block after block.
 
-use crate::check::check;
+use crate::Check;
 use oracle::Written;
 
 /// Slot 0 of each odd frame with no overhead in it: the signal and bit 2.
@@ -9,8 +9,14 @@ const ODD: [u8; 8] = [0x40, 0x40, 0xC0, 0x40, 0xC0, 0xC0, 0x40, 0x40];
 /// The bits that each odd frame's overhead may have; E is worth 64.
 const MOST: [u8; 8] = [63, 63, 63, 63, 63, 63, 127, 127];
 
-/// As [`oracle::write`].
-pub fn write(payload: &[u8], overhead: &[u8], carried: u64, out: &mut [u8]) -> Written {
+/// As [`oracle::write`], by this check.
+pub fn write(
+    payload: &[u8],
+    overhead: &[u8],
+    carried: u64,
+    out: &mut [u8],
+    check: Check,
+) -> Written {
     let refused = |number| Written { number, check: 0 };
     let n = payload.len() / 496;
     if payload.len() % 496 != 0 || !(1..=16).contains(&n) {

@@ -1,13 +1,13 @@
 //! How fast the library is: its times, and what they are to those of the
-//! plain form, the optimised form and a copy. `marks` has the same without
-//! the library.
+//! plain form, the optimised form with either check and a copy. `marks` has
+//! the same without the library.
 
 use bench::{hidden, Form};
 use jikhvanto::{Refusal, State};
 use std::process::ExitCode;
 
 fn main() -> ExitCode {
-    bench::main(&[kit(), bench::plain(), bench::optimised()])
+    bench::main(&[kit(), bench::plain(), bench::optimised(), bench::folded()])
 }
 
 fn kit() -> Form {

@@ -3,5 +3,5 @@
 use std::process::ExitCode;
 
 fn main() -> ExitCode {
-    bench::main(&[bench::plain(), bench::optimised()])
+    bench::main(&[bench::plain(), bench::optimised(), bench::folded()])
 }

@@ -1,5 +1,5 @@
-//! The check of a block, by folding: modulo x^4 + x + 1, x^15 is 1, so x^60 is
-//! too and a number of 64 bits moves on by 64 as it does by 4.
+//! The check of a block, by a chain of windows: modulo x^4 + x + 1, x^15 is 1, so
+//! x^60 is too and a number of 64 bits moves on by 64 as it does by 4.
 
 use crate::window;
 
