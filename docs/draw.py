@@ -1,7 +1,7 @@
 #!/usr/bin/env python3
-"""Draws docs/multiframe.svg and docs/exchange.svg.
+"""Draws docs/multiframe.svg, docs/fold.svg and docs/exchange.svg.
 
-docs/draw.py            writes both
+docs/draw.py            writes all three
 docs/draw.py --check    writes nothing, and fails where a file is not what would be written
 """
 import os
@@ -96,6 +96,94 @@ def multiframe():
     return page(right + 236, low + 30, parts)
 
 
+def fold():
+    """a block's octets in rows, their sum folded to 15 bits, and the four look-ups that make the check of it"""
+    wide, high, left, top = 26, 19, 82, 86
+    right, bottom = left + 15 * wide, top + 17 * high
+    last = bottom + 26  # the height at which the last octet goes to the third look-up
+
+    def small(x, y, words, anchor="middle"):
+        return text(x, y, words, anchor, "s")
+
+    def line(path):
+        return f'<path d="{path}"/>'
+
+    def dashed(path):
+        return f'<path d="{path}" stroke-dasharray="3 2"/>'
+
+    def bracket(x, to, y, words):
+        return line(f"M{x} {y + 7} V{y} H{to} V{y + 7}") + small((x + to) / 2, y - 6, words)
+
+    def strip(x, y, bits):
+        return [box(x + 14 * i, y - 8, 14, 16, fill, words, "s") for i, (words, fill) in enumerate(bits)]
+
+    # the rows, and behind each the octet that the second window has besides
+    window = left + 8 * wide
+    parts = [bracket(left, right, 30, "15 octets, 120 bits")]
+    parts += [bracket(x, to, 68, "a window of 64 bits") for x, to in ((left, window - 2), (window + 2, right + wide))]
+    for n in range(255):
+        row, column = divmod(n, 15)
+        fill, words = "#fff" if n % 64 else CHECK, str(n) if n < 30 or n % 64 == 0 or n in (240, 254) else ""
+        parts.append(box(left + column * wide, top + row * high, wide, high, fill, words, "s"))
+    parts += [small(left - 10, top + row * high + 14, f"row {row}", "end") for row in (0, 1, 16)]
+    parts += [dashed(f"M{right} {top + row * high} h{wide}") for row in range(18)] + [dashed(f"M{right + wide} {top} V{bottom}")]
+    parts += [line(f"M{right + wide + 5} {top} h6 V{bottom} h-6"), arrow(f"M{right + wide + 11} {top + 6} H610")]
+    parts += [small(559, top - 2, "17 rows"), lines(559, top + 24, "added\nwithout carry")]
+
+    # their sum, a bit 4 wide: a strip of paper that gets shorter and thicker
+    x, y, deep = 612, top, 12
+    parts.append(small(x, 26, "120, 60, 30 and 15 are multiples of 15, and x^15 leaves 1:", "start"))
+    parts.append(small(x, 41, "bits that come to lie on each other have the same share", "start"))
+    parts += [box(x, y, 240, deep, WORD), box(x + 240, y, 240, deep, SECOND), small(964, y + 36, "folded in the middle", "end")]
+    for layers in (1, 2, 4, 8):
+        bits, low = 120 // layers, y + deep * layers
+        parts.append(text(x, y - 6, f"{bits} bits", "start", "b"))
+        if layers > 1:
+            parts += [box(x, y + deep * i, 4 * bits, deep, (WORD, SECOND)[i % 2]) for i in range(layers)]
+        if layers < 8:
+            y = low + 34
+            parts.append(dashed(f"M{x + 2 * bits} {low - deep * layers - 5} V{low + 5}"))
+            parts.append(arrow(f"M{x + 3 * bits} {low} V{y + deep * layers * 1.5} H{x + 2 * bits + 2}"))
+
+    # the look-ups, each with a remainder from above and an octet from the left
+    one, two, three, four = 268, 358, last + 11.5, last + 98
+    zero, bit = ("0", "#fff"), ("", WORD)
+    parts += [box(872, 164, 220, four - 134, "#f2f0ee"), lines(982, 182, "one table: 16 remainders\nx 256 octets = 4,096 entries")]
+    parts += [box(904, y - 20, 156, 40, "#fff", f"look-up {i}", "b") for i, y in enumerate((one, two, three, four), 1)]
+    for y in (one, four):
+        parts += [small(982, y - 45, "remainder 0"), arrow(f"M982 {y - 40} V{y - 22}")]
+    for y, to in ((one, two), (two, three)):
+        parts += [arrow(f"M982 {y + 20} V{to - 22}"), lines(990, y + 37, "remainder,\n4 bits", "start")]
+    parts += [arrow(f"M852 {y} H902") for y in (one, two, four)]
+    # the first and the second octet: the sum
+    parts += [line(f"M642 {low} v18 H720 V{one}"), arrow(f"M720 {one} H738"), arrow(f"M720 {two} H738")]
+    parts += strip(740, one, [zero] + [bit] * 7) + [small(796, one - 15, "0 and the first 7 bits")]
+    parts += strip(740, two, [bit] * 8) + [small(796, two - 15, "the other 8 bits")]
+    # the third: the last octet and the check bits
+    parts += [small(left - 10, last + 4.5, "last octet", "end"), small(left - 10, last + 27.5, "check bits", "end")]
+    parts += [box(left, last - high / 2, wide, high, SIGNAL, "255", "s"), arrow(f"M{left + wide} {last} H738")]
+    parts += [box(left, last + 16, 14, 14, CHECK), arrow(f"M{left + 14} {last + 23} H738")]
+    parts += strip(740, last, [("", SIGNAL)] * 8) + strip(740, last + 23, [("", CHECK), zero] * 4)
+    parts += [small(796, last - 15, "last octet + check bits")] + [small(747 + 28 * i, last + 44, 2 ** (7 - 2 * i)) for i in range(4)]
+    parts += [line(f"M852 {last} H868 V{last + 23} H852"), arrow(f"M868 {three} H902")]
+    # the fourth: what the third left, and four zeros
+    parts += [arrow(f"M916 {three + 20} V{four - 38} H768 V{four - 10}"), small(778, four - 20, "remainder r", "start")]
+    parts += [box(740, four - 8, 56, 16, E, "r", "s")] + strip(796, four, [zero] * 4) + [small(796, four + 24, "16r: the four zeros")]
+    parts += [arrow(f"M982 {four + 20} v22"), text(914, four + 57.5, "check of the block", "end", "b")]
+    parts += [box(926 + 28 * i, four + 44, 28, 18, "#fff", f"C{i + 1}", "s") for i in range(4)]
+
+    for y, words in (
+        (44, "the first bits of octets 0, 64, 128 and 192: by fifteens they belong to"),
+        (59, "x^7, x^5, x^3 and x, the bits of an octet that are worth 128, 32, 8 and 2;"),
+        (74, "they are in the sum already, and added once more they come out: 1 + 1 is 0"),
+        (110, "one octet more: where the block begins inside an octet of the image,"),
+        (125, "a row lies across 16 of them"),
+    ):
+        parts.append(small(left + 20, last + y, words, "start"))
+    parts.append(dashed(f"M{left} {last + 99} h14 v14 h-14 z"))
+    return page(1104, four + 74, parts)
+
+
 def exchange():
     """from a host's record to the live map, and what the key does"""
     parts = [box(24, 120, 120, 56, SECOND, "host", "b")]
@@ -123,7 +211,7 @@ def main():
     check = sys.argv[1:] == ["--check"]
     if sys.argv[1:] and not check:
         sys.exit(__doc__)
-    for name, drawing in (("multiframe.svg", multiframe()), ("exchange.svg", exchange())):
+    for name, drawing in (("multiframe.svg", multiframe()), ("fold.svg", fold()), ("exchange.svg", exchange())):
         path = os.path.join(HERE, name)
         if not check:
             with open(path, "w", encoding="utf-8") as out:

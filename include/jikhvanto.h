@@ -8,7 +8,8 @@
  *
  * All this is proved of the library's source. It rests on what no proof of it can see, and you must keep:
  *   - every pointer is valid for its length, and none is NULL, even where its length is 0;
- *   - a buffer that a call writes overlaps no other buffer of that call.
+ *   - a buffer that a call writes overlaps no other buffer of that call;
+ *   - a call finds its stack: jk_read and jk_write take under 5,000 octets of it, the others under 500.
  * The library holds nothing between calls, so calls on buffers of their own may run side by side.
  *
  * From one version to the next no number and no place of an answer changes its meaning. New ones are only ever added at
