@@ -1,13 +1,13 @@
 -- The proof of Counts.
 use Prim.Native.Nat.{ℕ, zero, suc, _+_, _-_, _*_, _/_, _%_, _≤_, _<_}
 use mathlib.Core.Path.{_≡_, refl, sym, ap, ap₂, _∙_}
-use mathlib.Core.Bool.{Bool, true, false, cond, _&&_, not, and-eq-true-iff, true≢false}
+use mathlib.Core.Bool.{Bool, true, false, cond, not, true≢false}
 use mathlib.Core.List.{List}
 use mathlib.Core.Logic.{_↔_, _≢_}
 use native.Mathlib.Decide.{ℕ-discrete, decLt}
 use native.Mathlib.Nat.{add-zero}
 use native.Mathlib.Omega.{arith}
-use borrow.Author.Tests.{lt-ltb, le-ltb, ltb-true, eqb-true, eq-eqb, ne-eqb}
+use borrow.Author.Tests.{lt-ltb, le-ltb, eqb-true, eq-eqb, ne-eqb}
 use lib.Dec.{eqb, ltb}
 use Rattle.base.specs.Choice.{if_then_else_}
 use Rattle.base.specs.Tab.{sum, count}
@@ -22,7 +22,7 @@ use Rattle.read.specs.Reading.{wrong, wordErrors, wordBits, compared, agreesIn,
 use Rattle.read.specs.declared.Reading.{Reading}
 use Rattle.read.proofs.Laws.{wrong-word}
 use Rattle.read.proofs.EntryLaws.{read-accepted, read-either}
-use Rattle.claims.specs.Counts.{Counted, Agrees, WrongWord, WrongBit, FarError, Counts}
+use Rattle.claims.specs.Counts.{Counted, Agrees, WrongWord, WrongBit, bitEAt, FarError, Counts}
 use Rattle.claims.proofs.WordBits.{wrongIn, bits-counted, bits-least, bits-most, one-more-bit}
 
 -- What is counted
@@ -135,55 +135,25 @@ module _ (s : List ℕ) (q g : ℕ) where
     λ a. none-has differing .1 (λ b h n. n (a b (omega arith))),
   )
 
-  -- the second block of multiframe m was compared, and agreed
-  abbrev second : ℕ → Bool
-  second m = ltb (2 * m + 1) (compared g) && agreesIn s q (2 * m + 1)
+  -- E bit e is 0
+  abbrev zeroE : ℕ → Bool
+  zeroE e = eqb (bitAt s (bitEAt q e)) 0
 
-  -- E bit e
-  abbrev bitE : ℕ → ℕ
-  bitE e = bitAt s (frameAt q (16 * (e / 2) + 13 + 2 * (e % 2)))
-
-  farError : ℕ → Bool
-  farError e = second (e / 2) && eqb (bitE e) 0
-
-  far-error : (e : ℕ) → farError e ≡ true ↔ FarError s q g e
-  unfolding farError agrees
-  far-error e = (there, back)
-    where
-      b : ℕ
-      b = 2 * (e / 2) + 1
-
-      there : farError e ≡ true → FarError s q g e
-      there h =
-          let (w, z) = and-eq-true-iff (second (e / 2)) (eqb (bitE e) 0) .0 h in
-          let (l, a) = and-eq-true-iff (ltb b (compared g)) (agreesIn s q b) .0 w in
-          record { zero = eqb-true _ _ z; compared = omega (arith, ltb-true b (compared g) l); agreed = eqb-true _ _ a }
-
-      back : FarError s q g e → farError e ≡ true
-      back f = rw (lt-ltb b (compared g) (omega arith), eq-eqb _ _ (f .agreed), eq-eqb _ _ (f .zero))
+  far-error : (e : ℕ) → zeroE e ≡ true ↔ FarError s q e
+  far-error e = (eqb-true (bitAt s (bitEAt q e)) 0, eq-eqb (bitAt s (bitEAt q e)) 0)
 
   -- those of one multiframe
-  two-errors : (m : ℕ) → cond (second m) (zerosE s q m) 0
-      ≡ cond (farError (2 * m)) 1 0 + cond (farError (2 * m + 1)) 1 0
-  unfolding farError
-  two-errors m =
-      let a : 2 * m / 2 ≡ m = omega arith in
-      let b : (2 * m + 1) / 2 ≡ m = omega arith in
-      let c : 16 * m + 13 + 2 * (2 * m % 2) ≡ 16 * m + 13 = omega arith in
-      let d : 16 * m + 13 + 2 * ((2 * m + 1) % 2) ≡ 16 * m + 15 = omega arith in
-      rw (a, b, c, d) (go (second m) (bit-lt s (frameAt q (16 * m + 13))) (bit-lt s (frameAt q (16 * m + 15))))
-    where
-      go : (t : Bool) {x y : ℕ} → x < 2 → y < 2
-          → cond t ((1 - x) + (1 - y)) 0 ≡ cond (t && eqb x 0) 1 0 + cond (t && eqb y 0) 1 0
-      go true {x} {y} h k = omega (arith, is-zero x h, is-zero y k)
-      go false h k = refl
+  two-zeros : (m : ℕ) → zerosE s q m ≡ cond (zeroE (2 * m)) 1 0 + cond (zeroE (2 * m + 1)) 1 0
+  two-zeros m =
+      let a : bitEAt q (2 * m) ≡ frameAt q (16 * m + 13) = omega arith in
+      let b : bitEAt q (2 * m + 1) ≡ frameAt q (16 * m + 15) = omega arith in
+      rw (a, b) (ap₂ (λ x y. x + y) (is-zero _ (bit-lt s _)) (is-zero _ (bit-lt s _)))
 
-  far-counted : farEnd s q g ≡ count (2 * g) farError
+  far-errors : Counted (2 * g) (farEnd s q g) (FarError s q)
   unfolding farEnd
-  far-counted = sum-pairs g (λ m. cond (second m) (zerosE s q m) 0) (λ e. cond (farError e) 1 0) two-errors
-
-  far-errors : Counted (2 * g) (farEnd s q g) (FarError s q g)
-  far-errors = rw far-counted (named (counted (2 * g) farError) far-error)
+  far-errors =
+      rw (sum-pairs g (zerosE s q) (λ e. cond (zeroE e) 1 0) two-zeros)
+      (named (counted (2 * g) zeroE) far-error)
 
 -- the words and their bits, of any answer
 module _ (s payload slot0 : List ℕ) where

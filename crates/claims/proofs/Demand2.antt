@@ -156,7 +156,7 @@ module _ (p o : List ℕ) (c n : ℕ) (g : Inputs p o c n) where
       neither : (a b : Bool) → a ≡ false → b ≡ false → a || b ≡ false
       neither a b x y = rw (x, y)
 
-      e-bits : (m : ℕ) → m < n - 1 → zerosE line 0 m ≡ zeroEs o m
+      e-bits : (m : ℕ) → m < n → zerosE line 0 m ≡ zeroEs o m
       e-bits m l =
           let f : 2 * (8 * m + 6) + 1 ≡ 16 * m + 13 = omega arith in
           let f' : 2 * (8 * m + 7) + 1 ≡ 16 * m + 15 = omega arith in
@@ -192,7 +192,7 @@ module _ (p o : List ℕ) (c n : ℕ) (g : Inputs p o c n) where
         value f = got line payload slot0 r payload' slot0' h number f
 
         reads-clean : ReadBack p o n r payload' slot0'
-        unfolding slots reading.accept
+        unfolding slots farEnd reading.accept
         reads-clean =
             record {
               number = number;
@@ -206,7 +206,7 @@ module _ (p o : List ℕ) (c n : ℕ) (g : Inputs p o c n) where
               wordbits = a .word-bits ∙ ap₂ (wordBits line) at-0 all-n ∙ unbroken.no-word-bits line n framed;
               compared = a .compares ∙ ap compared all-n;
               errored = a .errors ∙ ap₂ (errored line) at-0 all-n ∙ unbroken.none-errored line n framed;
-              farend = a .far-end ∙ ap₂ (farEnd line) at-0 all-n ∙ unbroken.far-end-all line n framed ∙ sum-ext (n - 1) (zerosE line 0) (zeroEs o) e-bits;
+              farend = a .far-end ∙ ap₂ (farEnd line) at-0 all-n ∙ sum-ext n (zerosE line 0) (zeroEs o) e-bits;
               payload = ap (take (496 * n)) (front line payload slot0 r payload' slot0' h number
                   ∙ ap₂ (λ x y. payloadOf line x y ++ drop (496 * y) payload) at-0 all-n)
                   ∙ take-at (payloadOf line 0 n) (drop (496 * n) payload) (496 * n) (reads.payload-length line 0 n)

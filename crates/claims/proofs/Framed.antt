@@ -1,22 +1,22 @@
 -- What is read from a line that stands whole: every word, every bit 2, every signal and every check in its place.
-use Prim.Native.Nat.{ℕ, zero, suc, _+_, _-_, _*_, _≤_, _<_}
-use mathlib.Core.Path.{_≡_, refl, sym, ap, _∙_}
+use Prim.Native.Nat.{ℕ, _+_, _-_, _*_, _≤_, _<_}
+use mathlib.Core.Path.{_≡_, refl, ap, _∙_}
 use mathlib.Core.Bool.{Bool, true, false, _&&_, not, cond}
 use mathlib.Core.List.{List}
 use mathlib.Core.Option.{Option, none, some}
-use native.Mathlib.Nat.{zero-add, add-zero}
+use native.Mathlib.Nat.{zero-add}
 use native.Mathlib.Omega.{arith}
-use borrow.Author.Tests.{eqb-true, eq-eqb, le-leb, lt-ltb, le-ltb}
-use lib.Dec.{eqb, leb, ltb, lit<}
+use borrow.Author.Tests.{eqb-true, eq-eqb, le-leb}
+use lib.Dec.{eqb, leb, lit<}
 use lib.ListN.{length, getD}
 use Rattle.line.specs.Bit.{bitAt}
-use Rattle.base.specs.Tab.{first, least, sum}
-use Rattle.base.proofs.TabLaws.{some-first, some-least, none-least, at-all, sum-none, sum-ext}
+use Rattle.base.specs.Tab.{first, least}
+use Rattle.base.proofs.TabLaws.{some-first, some-least, none-least, at-all, sum-none}
 use Rattle.e1.specs.Frame.{frameAt, wordAt, signal}
 use Rattle.e1.specs.Block.{agrees}
 use Rattle.align.specs.Place.{basic, mark, signalAt, pairAt, withPlace, standing, firstStanding}
 use Rattle.read.specs.Reading.{whole, wrongBitsOf, wrong, threeWrong, loss, wordErrors, wordBits, compared, agreesIn}
-use Rattle.read.specs.Reading.{errored, zerosE, farEnd}
+use Rattle.read.specs.Reading.{errored}
 
 -- a line of n multiframes, its first bit that of a frame 0
 pub record Framed (s : List ℕ) (n : ℕ) : Type 0 where
@@ -41,9 +41,6 @@ stood : (a b : Bool) (o : Option ℕ) → a ≡ true → b ≡ true → o ≡ so
   k = 0;
 })
 stood a b o p q r = rw (p, q, r)
-
-counted : (a b : Bool) (x : ℕ) → a ≡ true → b ≡ true → cond (a && b) x 0 ≡ x
-counted a b x p q = rw (p, q)
 
 module _ (s : List ℕ) (n : ℕ) (h : Framed s n) where
   signal-at : (m : ℕ) → m < n → signalAt s 0 (8 * m) ≡ true
@@ -105,22 +102,3 @@ module _ (s : List ℕ) (n : ℕ) (h : Framed s n) where
   unfolding errored
   none-errored =
       sum-none (compared n) (λ b. cond (not (agreesIn s 0 b)) 1 0) (λ b l. ap (λ c. cond (not c) 1 0) (each-clean b l))
-
-  -- every E bit that is 0 counts, but those of the last multiframe
-  pub far-end-all : farEnd s 0 n ≡ sum (n - 1) (zerosE s 0)
-  unfolding farEnd sum
-  far-end-all = go n refl
-    where
-      e-bits : ℕ → ℕ
-      e-bits m = cond (ltb (2 * m + 1) (compared n) && agreesIn s 0 (2 * m + 1)) (zerosE s 0 m) 0
-
-      go : (k : ℕ) → n ≡ k → sum k e-bits ≡ sum (k - 1) (zerosE s 0)
-      go zero e = refl
-      go (suc k) e =
-          let one : suc k - 1 ≡ k = omega arith in
-          let last : e-bits k ≡ 0 = ap (λ b. cond (b && agreesIn s 0 (2 * k + 1)) (zerosE s 0 k) 0) (le-ltb (2 * k + 1) (compared n) (omega arith)) in
-          let rest : sum k e-bits ≡ sum k (zerosE s 0)
-          = sum-ext k e-bits (zerosE s 0)
-          (λ m l. counted (ltb (2 * m + 1) (compared n)) (agreesIn s 0 (2 * m + 1)) (zerosE s 0 m)
-          (lt-ltb (2 * m + 1) (compared n) (omega arith)) (each-clean (2 * m + 1) (omega arith))) in
-          ap (λ x. sum k e-bits + x) last ∙ add-zero (sum k e-bits) ∙ rest ∙ ap (λ j. sum j (zerosE s 0)) (sym one)

@@ -43,11 +43,13 @@ pub record OneHit (s t : List ℕ) (q i j : ℕ) : Type 0 where
   pub wrong : WrongBit t q i j
   pub others : (p : ℕ) → p ≢ wordBitAt q i j → bitAt t p ≡ bitAt s p
 
--- E bit e of g multiframes, two in each, is 0, and the second block of its multiframe was compared and agreed
-pub record FarError (s : List ℕ) (q g e : ℕ) : Type 0 where
-  pub zero : bitAt s (frameAt q (16 * (e / 2) + 13 + 2 * (e % 2))) ≡ 0
-  pub compared : 2 * (e / 2) + 2 < 2 * g
-  pub agreed : Agrees s q (2 * (e / 2) + 1)
+-- the place of E bit e: they are numbered through, two to a multiframe, in its frames 13 and 15
+abbrev pub bitEAt : ℕ → ℕ → ℕ
+bitEAt q e = frameAt q (16 * (e / 2) + 13 + 2 * (e % 2))
+
+-- it is 0
+abbrev pub FarError : List ℕ → ℕ → ℕ → Type 0
+FarError s q e = bitAt s (bitEAt q e) ≡ 0
 
 pub record Counts : Type 0 where
   pub words : (s payload slot0 : List ℕ) (r : Reading) (payload' slot0' : List ℕ)
@@ -78,7 +80,7 @@ pub record Counts : Type 0 where
       → Counted (r .compared) (r .errored) (λ b. Agrees s (r .start) b → ⊥)
   pub farend : (s payload slot0 : List ℕ) (r : Reading) (payload' slot0' : List ℕ)
       → Read s payload slot0 r payload' slot0' → r .number ≡ 0
-      → Counted (2 * r .used) (r .farend) (FarError s (r .start) (r .used))
+      → Counted (2 * r .used) (r .farend) (FarError s (r .start))
   -- so none is errored exactly when every compared block agrees
   pub none-errored : (s payload slot0 : List ℕ) (r : Reading) (payload' slot0' : List ℕ)
       → Read s payload slot0 r payload' slot0' → r .number ≡ 0

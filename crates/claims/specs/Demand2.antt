@@ -77,7 +77,7 @@ pub record ReadBack (p o : List ℕ) (n : ℕ) (r : Reading) (payload' slot0' : 
   pub wordbits : r .wordbits ≡ 0
   pub compared : r .compared ≡ 2 * n - 1
   pub errored : r .errored ≡ 0
-  pub farend : r .farend ≡ sum (n - 1) (zeroEs o)
+  pub farend : r .farend ≡ sum n (zeroEs o)
   pub payload : take (496 * n) payload' ≡ p
   pub overhead : tab (8 * n) (λ h. overheadOf h (getD slot0' (2 * h + 1) 0)) ≡ o
 

@@ -48,11 +48,11 @@ fn signal(pen: Pen, n: usize, bit: usize) -> Pen {
     )
 }
 
-// bit 1 of frame 13 or 15: E, and whether it counts where it is 0
-fn far(pen: Pen, bit: usize, counts: bool) -> Pen {
+// bit 1 of frame 13 or 15: E
+fn far(pen: Pen, bit: usize) -> Pen {
     pen.fill(
-        b"<g class='cell bits e% c%'><rect width='24' height='24'/><text x='12' y='16'>E%</text></g>",
-        &[bit, counts as usize, bit],
+        b"<g class='cell bits e%'><rect width='24' height='24'/><text x='12' y='16'>E%</text></g>",
+        &[bit, bit],
     )
 }
 
@@ -67,17 +67,17 @@ fn overhead(pen: Pen, bits: &[usize]) -> Pen
     pen.fill(b"% % %%%%%</text></g>", &bits[1..])
 }
 
-fn odd(pen: Pen, bits: &[usize], n: usize, counts: bool) -> Pen
+fn odd(pen: Pen, bits: &[usize], n: usize) -> Pen
     requires { ⌜ length (now bits) ≡ 8 ⌝ }
 {
     if n < 12 {
         return overhead(signal(pen, n, bits[0]), bits);
     }
-    overhead(far(pen, bits[0], counts), bits)
+    overhead(far(pen, bits[0]), bits)
 }
 
 // frame f of the line, in its place among the sixteen of its multiframe; its number shows under a pointer
-pub fn frame(pen: Pen, slot0: &[u8; 256], f: usize, counts: bool) -> Pen
+pub fn frame(pen: Pen, slot0: &[u8; 256], f: usize) -> Pen
     requires { ⌜ f < 256 ⌝ }
 {
     let n = f % 16;
@@ -90,5 +90,5 @@ pub fn frame(pen: Pen, slot0: &[u8; 256], f: usize, counts: bool) -> Pen
         let wrong = e1::wrong_bits(slot0, 8 * f) as usize;
         return even(pen, &bits, wrong).text(b"</g>\n");
     }
-    odd(pen, &bits, n, counts).text(b"</g>\n")
+    odd(pen, &bits, n).text(b"</g>\n")
 }

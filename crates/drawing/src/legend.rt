@@ -9,12 +9,12 @@ path{stroke:#1f2a33;stroke-width:1.4}
 .cell rect,.dashed rect{fill:#fff;stroke:#6b7782;stroke-width:.8}.cell text{text-anchor:middle}
 .bits text{font-family:'DejaVu Sans Mono',Menlo,Consolas,monospace}
 .used1 rect,.check rect{fill:#d6e6f4}.word rect{fill:#edf3f8}.signal rect{fill:#e8e1f2}.e1 rect{fill:#fbf3d0}
-.e0.c1 rect{fill:#e69f00;stroke:#1f2a33;stroke-width:1.6}.a1 rect{stroke:#9c3500;stroke-width:2.4}
+.e0 rect{fill:#e69f00;stroke:#1f2a33;stroke-width:1.6}.a1 rect{stroke:#9c3500;stroke-width:2.4}
 .wrong rect,.right0 .word rect,.right0 .signal rect{fill:#9c3500;stroke:#9c3500}.cross{display:none}
 .wrong text,.right0 .word text,.right0 .signal text{fill:#fff;font-weight:bold}.right0 .cross{display:inline}
 .many{font-size:9px}.asked path{stroke:#1d5f8a;stroke-width:2.4}.asked text{fill:#1d5f8a;font-weight:bold}
 .holds{fill:none;stroke:#1d5f8a;stroke-width:2.4}
-.clean rect{stroke:#2f6f86}.clean text{fill:#2f6f86}.used0 rect,.e0.c0 rect,.dashed rect{stroke-dasharray:3 2}
+.clean rect{stroke:#2f6f86}.clean text{fill:#2f6f86}.used0 rect,.dashed rect{stroke-dasharray:3 2}
 </style>
 ",
     )
@@ -41,9 +41,7 @@ A block's own check is carried in C1 to C4 of the next row.</text>
 <g transform='translate(274 0)'><text x='92' y='16'>far end: no error</text>
 <g class='cell bits e1'><rect width='84' height='24'/><text x='42' y='16'>E1</text></g></g>
 <g transform='translate(274 30)'><text x='92' y='16'>far end: errored</text>
-<g class='cell bits e0 c1'><rect width='84' height='24'/><text x='42' y='16'>E0</text></g></g>
-<g transform='translate(274 60)'><text x='92' y='16'>not counted: second block not clean</text>
-<g class='cell bits e0 c0'><rect width='84' height='24'/><text x='42' y='16'>E0</text></g></g>
+<g class='cell bits e0'><rect width='84' height='24'/><text x='42' y='16'>E0</text></g></g>
 <g transform='translate(578 0)'><text x='92' y='16'>the alignment word</text>
 <g class='cell bits word'><rect width='84' height='24'/><text x='42' y='16'>0011011</text></g></g>
 <g transform='translate(578 30)'><text x='92' y='16'>a word, 2 bits wrong</text>

@@ -30,10 +30,6 @@ fn mark_of(image: &[u8], r: Reading, b: usize) -> Mark
     Mark::Errored
 }
 
-fn is_clean(mark: Mark) -> bool {
-    if let Mark::Clean = mark { true } else { false }
-}
-
 // a mark at the end of the row at y
 fn print_mark(pen: Pen, mark: Mark, y: usize) -> Pen {
     let pen = pen.fill(b"<g transform='translate(804 %)'>", &[y]);
@@ -61,16 +57,15 @@ fn opened(pen: Pen, m: usize) -> Pen
     )
 }
 
-// multiframe m, its frames as they stand in slot0; its E bits count where its second block is clean
+// multiframe m, its frames as they stand in slot0
 fn multiframe(pen: Pen, image: &[u8], slot0: &[u8; 256], r: Reading, m: usize) -> Pen
     requires { ⌜ Shown (length (now image)) r × (m < 16) ⌝ }
 {
     let first = mark_of(image, r, 2 * m);
     let second = mark_of(image, r, 2 * m + 1);
-    let counts = is_clean(second);
     let mut pen = opened(pen, m);
     for f in 16 * m..16 * m + 16 {
-        pen = frames::frame(pen, slot0, f, counts);
+        pen = frames::frame(pen, slot0, f);
     }
     print_mark(print_mark(pen, first, 0), second, 28).text(b"</g>\n")
 }

@@ -2,5 +2,4 @@ pub mod Laws
 pub mod EntryLaws
 pub mod Slots
 pub mod Words
-pub mod Counts
 pub mod Measures

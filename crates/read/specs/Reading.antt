@@ -4,10 +4,9 @@ use Prim.Native.Nat.{ℕ, _+_, _-_, _*_, _/_}
 use mathlib.Core.Bool.{Bool, _&&_, not}
 use mathlib.Core.List.{List}
 use mathlib.Core.Option.{Option, none, some}
-use lib.Dec.{eqb, leb, ltb}
+use lib.Dec.{eqb, leb}
 use lib.ListN.{length}
 use Rattle.line.specs.Bit.{bitAt, octetAt}
-use Rattle.base.specs.Choice.{if_then_else_}
 use Rattle.base.specs.Tab.{tab, sum, count, least}
 use Rattle.e1.specs.Frame.{frameAt, slotAt, wrongBits}
 use Rattle.e1.specs.Block.{agrees}
@@ -82,6 +81,6 @@ errored s q g = count (compared g) (λ b. not (agreesIn s q b))
 abbrev pub zerosE : List ℕ → ℕ → ℕ → ℕ
 zerosE s q m = (1 - bitAt s (frameAt q (16 * m + 13))) + (1 - bitAt s (frameAt q (16 * m + 15)))
 
--- counted only in multiframes whose second block was compared and agreed
+-- those of g multiframes: each counts, whether or not the block that holds it agrees
 unfoldable pub farEnd : List ℕ → ℕ → ℕ → ℕ
-farEnd s q g = sum g (λ m. if ltb (2 * m + 1) (compared g) && agreesIn s q (2 * m + 1) then zerosE s q m else 0)
+farEnd s q g = sum g (zerosE s q)

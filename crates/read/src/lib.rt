@@ -34,11 +34,10 @@ struct Tracked {
     wordbits: usize,
 }
 
-// What the checks and the E bits tell.
+// What the checks tell.
 struct Judged {
     compared: usize,
     errored: usize,
-    farend: usize,
 }
 
 // the loss in m multiframes, those used, and their wrong words and bits; each word is judged once, and counts where its
@@ -176,33 +175,38 @@ fn zeros_e(s: &[u8], q: usize, m: usize) -> usize
     ((1 - a) + (1 - b)) as usize
 }
 
-// the blocks compared, those that differ, and the E bits that count; each check is taken once, and what a block carries
-// is read once
+// those of g multiframes
+fn far_end(s: &[u8], q: usize, g: usize) -> usize
+    requires { ⌜ Room (now s) q (4096 * g) ⌝ }
+    ensures { λ r. ⌜ r ≡ farEnd (now (s .entry)) q g ⌝ }
+{
+    let mut zeros: usize = 0;
+    for m in 0..g {
+        zeros += zeros_e(s, q, m);
+    }
+    zeros
+}
+
+// the blocks compared, and those that differ; each check is taken once, and what a block carries is read once
 fn judge(s: &[u8], q: usize, g: usize) -> Judged
     requires { ⌜ Room (now s) q (4096 * g) × Room (now s) q 2048 ⌝ }
-    ensures { λ r. ⌜ (r .compared ≡ compared g)
-        × (r .errored ≡ errored (now (s .entry)) q g)
-        × (r .farend ≡ farEnd (now (s .entry)) q g) ⌝ }
+    ensures { λ r. ⌜ (r .compared ≡ compared g) × (r .errored ≡ errored (now (s .entry)) q g) ⌝ }
 {
     let n = compared(g);
     let table = crc::table::remainders();
     let mut carried = e1::carried(s, q);
     let mut errored: usize = 0;
-    let mut farend: usize = 0;
     for b in 0..n {
         let p = q + 2048 * b;
         let check = e1::block_check(s, p, carried, &table);
         carried = e1::carried(s, p + 2048);
         if check != carried {
             errored += 1;
-        } else if b % 2 == 1 {
-            farend += zeros_e(s, q, b / 2);
         }
     }
     Judged {
         compared: n,
         errored: errored,
-        farend: farend,
     }
 }
 
@@ -239,6 +243,7 @@ fn read_from(image: &[u8], place: usize, k: usize, payload: &mut [u8], slot0: &m
         return refused(4);
     }
     let judged = judge(image, start, used);
+    let farend = far_end(image, start, used);
     payload_of(image, start, used, payload);
     slot0_of(image, start, used, slot0);
     Reading {
@@ -251,7 +256,7 @@ fn read_from(image: &[u8], place: usize, k: usize, payload: &mut [u8], slot0: &m
         words: tracked.words,
         compared: judged.compared,
         errored: judged.errored,
-        farend: judged.farend,
+        farend: farend,
         wordbits: tracked.wordbits,
     }
 }

@@ -55,7 +55,8 @@ returns-2 : tie.Need-returns-2
 returns-2 c =
     let z = c .before .before in
     let y = z .before .before .before .before in
-    let j = y .before .before in
+    let f = y .before .before in
+    let j = f .before in
     let e = j .before in
     let t = e .before in
     let d = t .before .before .before .before in
@@ -71,7 +72,7 @@ returns-2 c =
     (t .track .ensures .2)
     (j .judge .ensures .0)
     (j .judge .ensures .1)
-    (j .judge .ensures .2)
+    (f .far-end .ensures)
     (t .track .ensures .3)
     (y .payload-of .ensures)
     (z .slot0-of .ensures)
@@ -92,8 +93,11 @@ read-from-spec =
     (λ c κs.
     let r = roomy (c .before .before .before .before .before) in
     (facts (c .before) .room, record { countable = omega arith; there = omega arith }))
-    (λ c κs. (facts (c .before .before .before) .room, fits (c .before .before) .0))
-    (λ c κs. (facts (c .before .before .before .before .before .before .before) .room, fits (c .before .before .before .before .before .before) .1))
+    (λ c κs.
+    let r = roomy (c .before .before .before .before .before .before) in
+    record { countable = omega arith; there = omega (arith, facts (c .before .before) .room .there) })
+    (λ c κs. let e = c .before .before .before in (facts (e .before) .room, fits e .0))
+    (λ c κs. let e = c .before .before .before .before .before .before .before in (facts (e .before) .room, fits e .1))
     (search needs)
     (search needs)
     returns-2)
