@@ -13,7 +13,7 @@ type Read = fn(&[u8], &mut [u8], &mut [u8]) -> Reading;
 pub fn reads(form: &str, other: Read) {
     let seed = seed(&format!("{LINES} lines read, {form}"));
     let (mut numbers, mut starts) = ([0; 5], [0; 8]);
-    let (mut several, mut hit) = (0, [0; 8]);
+    let (mut several, mut hit, mut far) = (0, [0; 8], 0);
     for item in 0..LINES {
         let r = &mut Random::new(seed, item);
         let image = image(r);
@@ -28,6 +28,8 @@ pub fn reads(form: &str, other: Read) {
         for slot in slot0.iter().step_by(2) {
             hit[wrong_bits(&bits(&[*slot]), 0) as usize] += 1;
         }
+        let last = slot0.rchunks(16).next();
+        far += u64::from(last.map_or(false, |m| m[13] < 128 || m[15] < 128));
     }
     // Every answer, and every bit of an octet, has had its share of the lines.
     assert!(numbers.iter().all(|&count| count >= 500), "{numbers:?}");
@@ -36,6 +38,9 @@ pub fn reads(form: &str, other: Read) {
     // Words with any number of wrong bits have been read, several in a word often.
     assert!(several >= numbers[0] / 8, "{several} of {numbers:?}");
     assert!(hit.iter().all(|&count| count >= 500), "{hit:?}");
+    // E bits of 0 have been read of a last multiframe, whose second block is not
+    // compared.
+    assert!(far >= numbers[0] / 8, "{far} of {numbers:?}");
 }
 
 /// Every octet and every number, with outputs of lengths that matter. It gives

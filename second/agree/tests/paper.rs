@@ -21,13 +21,22 @@ fn check_of(ones: &[usize]) -> String {
     check(&block).map(|bit| bit.to_string()).concat()
 }
 
+/// The overhead of a multiframe with E bits 1, and with E bits 0.
+const CLEAR: [u8; 8] = [31, 31, 31, 31, 31, 31, 95, 95];
+const FAR: [u8; 8] = [31; 8];
+
+/// Multiframes written with this overhead.
+fn line_of(overhead: &[[u8; 8]]) -> Vec<u8> {
+    let n = overhead.len();
+    let payload: Vec<u8> = (0..496 * n).map(|i| (11 * i + i / 31) as u8).collect();
+    let mut out = vec![0; 512 * n];
+    assert_eq!(write(&payload, &overhead.concat(), 0, &mut out).number, 0);
+    out
+}
+
 /// Written multiframes with E bits 1.
 fn line(n: usize) -> Vec<u8> {
-    let payload: Vec<u8> = (0..496 * n).map(|i| (11 * i + i / 31) as u8).collect();
-    let overhead: Vec<u8> = [31, 31, 31, 31, 31, 31, 95, 95].repeat(n);
-    let mut out = vec![0; 512 * n];
-    assert_eq!(write(&payload, &overhead, 0, &mut out).number, 0);
-    out
+    line_of(&[CLEAR].repeat(n))
 }
 
 fn read_all(image: &[u8]) -> Reading {
@@ -203,6 +212,18 @@ fn case_14_why() {
 }
 
 #[test]
+fn case_15_far_end_errors() {
+    let mut image = line_of(&[CLEAR, FAR, CLEAR, CLEAR]);
+    flip(&mut image, 6_300);
+    let r = read_all(&image);
+    assert_eq!((r.number, r.errored, r.farend), (0, 1, 2));
+    let mut image = line_of(&[FAR, CLEAR, CLEAR, CLEAR]);
+    wrong_words(&mut image, &[20, 22, 24]);
+    let r = read_all(&image);
+    assert_eq!((r.number, r.used, r.compared, r.farend), (0, 1, 1, 2));
+}
+
+#[test]
 fn wrong_bits_of_every_slot() {
     for slot in 0..=255_u8 {
         let ones = ((slot ^ 0b001_1011) & 0b111_1111).count_ones();
@@ -355,7 +376,7 @@ fn a_line_reads_as_it_was_written() {
     write(&payload, &[0; 40], 9, &mut image);
     let (mut read_back, mut slot0) = ([0; 496 * 5], [0; 80]);
     let r = read(&image, &mut read_back, &mut slot0);
-    assert_eq!((r.number, r.used, r.errored, r.farend), (0, 5, 0, 8));
+    assert_eq!((r.number, r.used, r.errored, r.farend), (0, 5, 0, 10));
     assert_eq!(read_back.as_slice(), payload);
     assert!((0..80).all(|f| slot0[f] == image[32 * f]));
 }

@@ -194,20 +194,29 @@ fn blocks(text: &mut String) {
 }
 
 fn far_ends(text: &mut String) {
-    // The E bits of multiframe m are 0, and these bits of the line are hit.
-    let mut far = |label: &str, m: usize, places: &[usize]| {
+    // The E bits of these overhead octets are 0, these words are wrong, and
+    // these bits of the line are hit.
+    let mut far = |label: &str, octets: &[usize], frames: &[usize], places: &[usize]| {
         let mut overhead = overhead(32);
-        overhead[8 * m + 6] -= 64;
-        overhead[8 * m + 7] -= 64;
+        for j in octets {
+            overhead[*j] -= 64;
+        }
         let mut image = line_of(&payload(496 * 4), &overhead);
+        wrong_words(&mut image, frames);
         hit(&mut image, places);
         read_case(text, label, &image);
     };
-    far("far clean", 1, &[]);
-    far("far first errored", 1, &[4_200]);
-    far("far second errored", 1, &[6_300]);
-    far("far last", 3, &[]);
-    far("far received", 1, &[3_328]);
+    far("15 errored", &[14, 15], &[], &[6_300]);
+    far("15 one used", &[6, 7], &[20, 22, 24], &[]);
+    far("far clean", &[14, 15], &[], &[]);
+    far("far first errored", &[14, 15], &[], &[4_200]);
+    far("far last", &[30, 31], &[], &[]);
+    far("far all", &[6, 7, 14, 15, 22, 23, 30, 31], &[], &[]);
+    far("far 13", &[14], &[], &[]);
+    far("far 15", &[15], &[], &[]);
+    far("far received", &[14, 15], &[], &[3_328]);
+    far("far past the loss", &[14, 15], &[20, 22, 24], &[]);
+    far("far none used", &[6, 7], &[4, 6, 8], &[]);
 }
 
 fn outputs(text: &mut String) {

@@ -40,7 +40,6 @@ pub fn read(image: &[u8], payload: &mut [u8], slot0: &mut [u8], check: Check) ->
     let (slots, wrong) = (&slots[..16 * used], &wrong[..8 * used]);
     slot0[..16 * used].copy_from_slice(slots);
     take(line, o, &mut payload[..496 * used]);
-    let (errored, farend) = compare(line, o, slots, check);
     Reading {
         number: 0,
         place: p as u64,
@@ -50,8 +49,8 @@ pub fn read(image: &[u8], payload: &mut [u8], slot0: &mut [u8], check: Check) ->
         lost: lost.unwrap_or(0) as u64,
         words: wrong.iter().filter(|bits| **bits != 0).count() as u64,
         compared: (2 * used as u64).saturating_sub(1),
-        errored,
-        farend,
+        errored: compare(line, o, slots, check),
+        farend: far_end_errors(slots),
         wordbits: ones(wrong),
     }
 }
@@ -134,18 +133,19 @@ fn carried(slots: &[u8], b: usize) -> u8 {
     c(0) << 3 | c(1) << 2 | c(2) << 1 | c(3)
 }
 
-/// Blocks errored, and far-end errors.
-fn compare(line: &[u8], o: usize, slots: &[u8], check: Check) -> (u64, u64) {
-    let (mut errored, mut farend) = (0, 0);
+/// Blocks errored.
+fn compare(line: &[u8], o: usize, slots: &[u8], check: Check) -> u64 {
+    let mut errored = 0;
     for b in 1..slots.len() / 8 {
         let agreed = check(&line[256 * (b - 1)..], o) == carried(slots, b);
-        if !agreed {
-            errored += 1;
-        } else if b % 2 == 0 {
-            // The block before is the second of its multiframe.
-            let e = |f: usize| u64::from(slots[8 * b - 16 + f] < 128);
-            farend += e(13) + e(15);
-        }
+        errored += u64::from(!agreed);
     }
-    (errored, farend)
+    errored
+}
+
+/// E bits that are 0; an octet holds their count, which is at most 32.
+fn far_end_errors(slots: &[u8]) -> u64 {
+    let zeros = |slots: &[u8]| u8::from(slots[13] < 128) + u8::from(slots[15] < 128);
+    let zeros: u8 = slots.chunks_exact(16).map(zeros).sum();
+    u64::from(zeros)
 }

@@ -63,7 +63,7 @@ pub fn read(image: &[u8], payload: &mut [u8], slot0: &mut [u8]) -> Reading {
         words: words.iter().filter(|&&bits| bits != 0).count() as u64,
         compared: agreed.len() as u64,
         errored: agreed.iter().filter(|&&agreed| !agreed).count() as u64,
-        farend: far_end_errors(line, &agreed),
+        farend: far_end_errors(line),
         wordbits: words.iter().sum(),
     }
 }
@@ -103,15 +103,12 @@ fn agreed(line: &[u8]) -> Vec<bool> {
         .collect()
 }
 
-/// E bits that are 0, in multiframes whose second block agreed. That of the
-/// last multiframe was not compared.
-fn far_end_errors(line: &[u8], agreed: &[bool]) -> u64 {
+/// E bits that are 0, whether or not their blocks agreed.
+fn far_end_errors(line: &[u8]) -> u64 {
     let mut count = 0;
-    for (m, multiframe) in line.chunks(MULTIFRAME).enumerate() {
-        if agreed.get(2 * m + 1) == Some(&true) {
-            for f in [13, 15] {
-                count += u64::from(multiframe[f * FRAME] == 0);
-            }
+    for multiframe in line.chunks(MULTIFRAME) {
+        for f in [13, 15] {
+            count += u64::from(multiframe[f * FRAME] == 0);
         }
     }
     count
