@@ -12,8 +12,12 @@
  *   - a call finds its stack: jk_read and jk_write take under 5,000 octets of it, the others under 500.
  * The library holds nothing between calls, so calls on buffers of their own may run side by side.
  *
- * From one version to the next no number and no place of an answer changes its meaning. New ones are only ever added at
- * the end: numbers after the last, places after a call's last value, where today it gives zeros.
+ * From one version to the next no number and no place of an answer changes its meaning, but for what is put right and
+ * named here:
+ *   - since 0.4.0 JK_FAREND counts every E bit that is 0 in the multiframes used; before, it left out multiframes whose
+ *     second block was not compared or did not agree.
+ * New numbers and places are only ever added at the end: numbers after the last, places after a call's last value,
+ * where today it gives zeros.
  */
 #ifndef JIKHVANTO_H
 #define JIKHVANTO_H
@@ -22,9 +26,9 @@
 #include <stdint.h>
 
 #define JK_VERSION_MAJOR 0
-#define JK_VERSION_MINOR 3
+#define JK_VERSION_MINOR 4
 #define JK_VERSION_PATCH 0
-#define JK_VERSION "0.3.0"
+#define JK_VERSION "0.4.0"
 
 #define JK_ANSWER 16 /* places of an answer */
 #define JK_STATE 99  /* octets of a state */
@@ -61,7 +65,7 @@ enum jk_place {
     JK_WORDS = 6,     /* wrong alignment words in the multiframes used */
     JK_COMPARED = 7,  /* blocks compared with the check bits after them */
     JK_ERRORED = 8,   /* those of them that differ */
-    JK_FAREND = 9,    /* E bits that are 0, in multiframes whose second block was compared and agreed */
+    JK_FAREND = 9,    /* E bits that are 0 in the multiframes used */
     JK_WORDBITS = 10, /* wrong bits of the alignment words in the multiframes used, 1 to 7 for each wrong word */
 
     /* jk_why */

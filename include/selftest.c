@@ -67,6 +67,8 @@ static void reading(void)
     static const uint64_t clean[JK_ANSWER] = {JK_ACCEPTED, 0, 0, N, N, 0, 0, 2 * N - 1, 0, 0, 0};
     static const uint64_t three[JK_ANSWER] = {JK_ACCEPTED, 0, 0, N, N, 0, 1, 2 * N - 1, 1, 0, 3};
     static const uint64_t ten[JK_ANSWER] = {JK_ACCEPTED, 0, 0, N, N, 0, 2, 2 * N - 1, 2, 0, 10};
+    static const uint64_t far_2[JK_ANSWER] = {JK_ACCEPTED, 0, 0, N, N, 0, 2, 2 * N - 1, 3, 2, 10};
+    static const uint64_t far_4[JK_ANSWER] = {JK_ACCEPTED, 0, 0, N, N, 0, 2, 2 * N - 1, 3, 4, 10};
     static const uint8_t zeros[2048] = {0};
 
     memset(back, BEFORE, sizeof back);
@@ -85,6 +87,14 @@ static void reading(void)
     EXPECT(reads(three) && answer[JK_WORDS] == 1 && answer[JK_WORDBITS] == 3);
     image[24 * 32] ^= 0x7F;
     EXPECT(reads(ten) && answer[JK_WORDS] == 2 && answer[JK_WORDBITS] == 10);
+
+    /* E bits made 0: two of a block that is errored by it, then the two of the last block, which is not compared */
+    image[45 * 32] ^= 0x80;
+    image[47 * 32] ^= 0x80;
+    EXPECT(reads(far_2) && answer[JK_ERRORED] == 3 && answer[JK_FAREND] == 2);
+    image[61 * 32] ^= 0x80;
+    image[63 * 32] ^= 0x80;
+    EXPECT(reads(far_4) && answer[JK_ERRORED] == 3 && answer[JK_FAREND] == 4);
 }
 
 /* Whether this is said of a place of the line's first octets, with zeros behind. */

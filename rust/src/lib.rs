@@ -33,8 +33,7 @@ pub struct Reading {
     pub compared: usize,
     /// Those of them that differ.
     pub errored: usize,
-    /// E bits that are 0, in multiframes whose second block was compared and
-    /// agreed.
+    /// E bits that are 0 in the multiframes used.
     pub farend: usize,
     /// Wrong bits of the alignment words in the multiframes used, 1 to 7 for
     /// each wrong word.

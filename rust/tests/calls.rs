@@ -62,6 +62,31 @@ fn wrong_bits_of_words_are_counted() {
 }
 
 #[test]
+fn far_end_errors_are_counted() {
+    // E bits 1 in multiframes 0 and 2, and 0 in 1 and 3.
+    let mut overhead = [31; 4 * 8];
+    for e in [6, 7, 22, 23] {
+        overhead[e] += 64;
+    }
+    let mut line = [0; 4 * 512];
+    write(&payload(4), &overhead, 0, &mut line).unwrap();
+    let mut hit = |frames: &[usize], bits: u8| {
+        for frame in frames {
+            line[32 * frame] ^= bits;
+        }
+        let r = read(&line, &mut [0; 7_936], &mut [0; 256]).unwrap();
+        (r.used, r.errored, r.farend)
+    };
+    assert_eq!(hit(&[], 0), (4, 0, 4));
+    // A word of the second block of multiframe 1, then an E bit of multiframe 2.
+    assert_eq!(hit(&[30], 0b000_0001), (4, 1, 4));
+    assert_eq!(hit(&[45], 0b1000_0000), (4, 2, 5));
+    // A loss in multiframe 2: those of multiframe 1 are left, in a block that
+    // is not compared any more.
+    assert_eq!(hit(&[36, 38, 40], 0b000_0001), (2, 0, 2));
+}
+
+#[test]
 fn a_place_is_asked_about() {
     let mut line = line(5);
     let hit = |line: &mut [u8], places: &[usize]| {
