@@ -1,4 +1,5 @@
--- For private functions alone. Octets as one number, as a window of 64 bits is made of them, and the bits of a number.
+-- For private functions alone, and for `eight_octets` and `turned`, which the search's private functions use. Octets as
+-- one number, as a window of 64 bits is made of them, and the bits of a number.
 use Prim.Native.Nat.{ℕ, zero, suc, _+_, _*_, _/_, _%_, _^_}
 use mathlib.Core.Path.{_≡_}
 use mathlib.Core.List.{List}

@@ -62,8 +62,16 @@ fn little(s: &[u8], i: usize) -> u64
     wide(s[i]) + 256 * wide(s[i + 1]) + 65536 * wide(s[i + 2]) + 16777216 * wide(s[i + 3])
 }
 
+// the eight octets from i on as a number that, turned, the 64 bits from there on spell
+pub fn eight_octets(s: &[u8], i: usize) -> u64
+    requires { ⌜ i + 8 ≤ length (now s) ⌝ }
+    ensures { λ r. ⌜ turned 8 r ≡ field (now (s .entry)) (8 * i) 64 ⌝ }
+{
+    little(s, i) + 4294967296 * little(s, i + 4)
+}
+
 // byte-reversed; compiles to one swap
-fn turned(w: u64) -> u64
+pub fn turned(w: u64) -> u64
     ensures { λ r. ⌜ r ≡ turned 8 w ⌝ }
 {
     72057594037927936 * (w % 256)
@@ -81,5 +89,5 @@ pub fn window(s: &[u8], i: usize) -> u64
     requires { ⌜ i + 8 ≤ length (now s) ⌝ }
     ensures { λ r. ⌜ r ≡ field (now (s .entry)) (8 * i) 64 ⌝ }
 {
-    turned(little(s, i) + 4294967296 * little(s, i + 4))
+    turned(eight_octets(s, i))
 }
