@@ -3,7 +3,7 @@ use Prim.Native.Nat.{ℕ, zero, suc, _+_, _*_, _≤_, _<_}
 use mathlib.Core.Path.{_≡_, refl, sym, ap, ap₂, _∙_}
 use mathlib.Core.Bool.{Bool, true, false, cond, _&&_, _||_, and-eq-true-iff, or-true}
 use mathlib.Core.List.{List}
-use mathlib.Core.Logic.{_↔_}
+use mathlib.Core.Logic.{_↔_, inl, inr}
 use mathlib.Core.Option.{Option, none, some, Option·none-ne-some, Option·some-injective}
 use mathlib.Mathlib.Data.Bool.Basic.{eq-false-of-not-eq-true}
 use native.Mathlib.Omega.{arith}
@@ -17,10 +17,11 @@ use Rattle.base.proofs.TabLaws.{all-at, at-all, least-some, least-none, none-le
 use Rattle.base.proofs.TabLaws.{some-first}
 use Rattle.e1.specs.Frame.{wordAt, signal}
 use Rattle.e1.proofs.WordLaws.{word-holds}
-use Rattle.align.specs.Place.{basic, mark, signalAt, againAt, pairAt, Standing, withPlace, standing}
-use Rattle.align.specs.Place.{firstStanding, found}
-use Rattle.align.specs.Stands.{Basic, Signal, Pair, Stands, StandsFirst}
-use Rattle.align.specs.declared.Found.the-variants.{At, Nothing}
+use Rattle.align.specs.Place.{basic, basicWithRoom, mark, signalAt, againAt, pairAt, Standing, withPlace}
+use Rattle.align.specs.Place.{standing, firstStanding, firstBasic, found, foundIn}
+use Rattle.align.specs.Stands.{Basic, BasicFirst, Signal, Pair, Stands, StandsFirst}
+use Rattle.align.specs.Window.{Wanted}
+use Rattle.align.specs.declared.Found.the-variants.{At, BasicAt, Nothing}
 
 -- one of j = 1, 2, 3 passes
 some-j-passes : (t : ℕ → Bool) → t 1 || (t 2 || t 3) ≡ true ↔ ((j : ℕ) × (1 ≤ j) × (j ≤ 3) × (t j ≡ true))
@@ -213,26 +214,85 @@ module _ (s : List ℕ) where
     λ n p k h. n p k (h .room) (h .basic) (h .pair),
   )
 
--- what the search answers
-pub found-at : (o : Option Standing) (p k : ℕ) → found o ≡ At p k → o ≡ some (record { place = p; k = k })
-found-at (some w) p k e = ap₂ (λ a b. some (record { place = a; k = b })) (cc) (cc)
-found-at none p k e = let z : _≡_ {A = ℕ} 0 1 = cc in absurd (omega arith)
+  -- the first place with room and basic alignment, and that there is none
+  with-room : (p : ℕ) → basicWithRoom s p ≡ true ↔ ((p + 16384 ≤ 8 * length s) × Basic s p)
+  with-room p = (
+    λ e.
+        let a = and-eq-true-iff (leb (p + 16384) (8 * length s)) (basic s p) .0 e in
+        (leb-true _ _ (a .0), basic-holds s p .0 (a .1)),
+    λ h. rw (le-leb _ _ (h .0), basic-holds s p .1 (h .1)),
+  )
 
-pub found-nothing : (o : Option Standing) → found o ≡ Nothing → o ≡ none
-found-nothing (some w) e = let z : _≡_ {A = ℕ} 0 1 = cc in absurd (omega arith)
-found-nothing none e = refl
+  pub basic-first : (p : ℕ) → firstBasic s ≡ some p ↔ BasicFirst s p
+  unfolding firstBasic
+  basic-first p = (there, back)
+    where
+      there : firstBasic s ≡ some p → BasicFirst s p
+      there e =
+          let l = least-some (8 * length s) (basicWithRoom s) p .0 e in
+          let h = with-room p .0 (l .passes) in
+          record {
+            room = h .0;
+            basic = h .1;
+            before = λ q g b. denies (with-room q) (l .before q g) (omega (arith, h .0), b);
+          }
 
--- that is, the first place that stands, or that none does
-pub finds-at : (s : List ℕ) (p k : ℕ) → found (firstStanding s) ≡ At p k ↔ StandsFirst s p k
+      back : BasicFirst s p → firstBasic s ≡ some p
+      back h =
+          least-some (8 * length s) (basicWithRoom s) p .1 (record {
+            below = omega (arith, h .room);
+            passes = with-room p .1 (h .room, h .basic);
+            before = λ q g. eq-false-of-not-eq-true (λ e. h .before q g (with-room q .0 e .1));
+          })
+
+  pub none-basic : firstBasic s ≡ none ↔ ((p : ℕ) → p + 16384 ≤ 8 * length s → Basic s p → ⊥)
+  unfolding firstBasic
+  none-basic = (
+    λ e p room b. denies (with-room p) (least-none (8 * length s) (basicWithRoom s) e p (omega arith)) (room, b),
+    λ h. none-least (8 * length s) (basicWithRoom s) (λ p l. eq-false-of-not-eq-true (λ e. let w = with-room p .0 e in h p (w .0) (w .1))),
+  )
+
+  -- where none has basic alignment none stands
+  pub basic-none : firstBasic s ≡ none → firstStanding s ≡ none
+  basic-none e = none-stands .1 (λ p k h. none-basic .0 e p (h .room) (h .basic))
+
+-- what the search answers, case by case
+pub found-at : (o : Option Standing) (b : Option ℕ) (p k : ℕ) → found o b ≡ At p k
+    → o ≡ some (record { place = p; k = k })
+found-at (some w) b p k e = ap₂ (λ x y. some (record { place = x; k = y })) (cc) (cc)
+found-at none (some q) p k e = let z : _≡_ {A = ℕ} 0 1 = cc in absurd (omega arith)
+found-at none none p k e = let z : _≡_ {A = ℕ} 0 1 = cc in absurd (omega arith)
+
+pub found-basic : (o : Option Standing) (b : Option ℕ) (p : ℕ) → found o b ≡ BasicAt p → (o ≡ none) × (b ≡ some p)
+found-basic (some w) b p e = let z : _≡_ {A = ℕ} 0 1 = cc in absurd (omega arith)
+found-basic none (some q) p e = (refl, ap some (cc))
+found-basic none none p e = let z : _≡_ {A = ℕ} 0 1 = cc in absurd (omega arith)
+
+pub found-nothing : (o : Option Standing) (b : Option ℕ) → found o b ≡ Nothing → (o ≡ none) × (b ≡ none)
+found-nothing (some w) b e = let z : _≡_ {A = ℕ} 0 1 = cc in absurd (omega arith)
+found-nothing none (some q) e = let z : _≡_ {A = ℕ} 0 1 = cc in absurd (omega arith)
+found-nothing none none e = (refl, refl)
+
+-- that is, the first place that stands, the first with basic alignment where none does, or nothing where none has it
+pub finds-at : (s : List ℕ) (p k : ℕ) → foundIn s ≡ At p k ↔ StandsFirst s p k
 finds-at s p k = (
-  λ e. first-stands s p k .0 (found-at (firstStanding s) p k e),
-  λ h. ap found (first-stands s p k .1 h),
+  λ e. first-stands s p k .0 (found-at (firstStanding s) (firstBasic s) p k e),
+  λ h. ap (λ o. found o (firstBasic s)) (first-stands s p k .1 h),
 )
 
-pub finds-nothing : (s : List ℕ) → found (firstStanding s) ≡ Nothing ↔ ((p k : ℕ) → Stands s p k → ⊥)
+pub finds-basic : (s : List ℕ) (p : ℕ) → foundIn s ≡ BasicAt p ↔ BasicFirst s p × ((q k : ℕ) → Stands s q k → ⊥)
+finds-basic s p = (
+  λ e.
+      let f = found-basic (firstStanding s) (firstBasic s) p e in
+      (basic-first s p .0 (f .1), none-stands s .0 (f .0)),
+  λ h. ap₂ found (none-stands s .1 (h .1)) (basic-first s p .1 (h .0)),
+)
+
+pub finds-nothing : (s : List ℕ)
+    → foundIn s ≡ Nothing ↔ ((p : ℕ) → p + 16384 ≤ 8 * length s → Basic s p → ⊥)
 finds-nothing s = (
-  λ e. none-stands s .0 (found-nothing (firstStanding s) e),
-  λ h. ap found (none-stands s .1 h),
+  λ e. none-basic s .0 (found-nothing (firstStanding s) (firstBasic s) e .1),
+  λ h. let e = none-basic s .1 h in ap₂ found (basic-none s e) e,
 )
 
 -- the bits from the place on are there, and k is at most 18
@@ -244,3 +304,8 @@ pub first-within : (s : List ℕ) (p k : ℕ) → firstStanding s ≡ some (reco
 first-within s p k e =
     let h = first-stands s p k .0 e .stands in
     (h .room, pair-below s p k (h .pair))
+
+-- a place that the search has to look at has basic alignment
+pub wanted-basic : (s : List ℕ) (known : Bool) (q : ℕ) → Wanted s known q → Basic s q
+wanted-basic s known q (inl w) = w .1 .basic
+wanted-basic s known q (inr w) = w .1

@@ -1,5 +1,5 @@
 -- Which place stands (G.706, 4.1.2 and 4.2; KIT §4), as it is worked out: the first of an image that does, with its
--- least k.
+-- least k; and where none does, the first with basic alignment.
 use Prim.Native.Nat.{ℕ, _+_, _*_}
 use mathlib.Core.Bool.{Bool, _&&_, _||_}
 use mathlib.Core.List.{List}
@@ -11,11 +11,15 @@ use Rattle.base.specs.Choice.{if_then_else_}
 use Rattle.base.specs.Tab.{all, first, least}
 use Rattle.e1.specs.Frame.{wordAt, signal}
 use Rattle.align.specs.declared.Found.{Found}
-use Rattle.align.specs.declared.Found.the-variants.{At, Nothing}
+use Rattle.align.specs.declared.Found.the-variants.{At, BasicAt, Nothing}
 
 -- basic alignment: the word, then a 1 in bit 2 of the next frame, then the word
 unfoldable pub basic : List ℕ → ℕ → Bool
 basic s p = wordAt s p && (eqb (bitAt s (p + 257)) 1 && wordAt s (p + 512))
+
+-- and 16,384 bits from the place to the end of the image
+abbrev pub basicWithRoom : List ℕ → ℕ → Bool
+basicWithRoom s p = leb (p + 16384) (8 * length s) && basic s p
 
 -- m(k)
 abbrev pub mark : List ℕ → ℕ → ℕ → ℕ
@@ -43,26 +47,39 @@ withPlace p none = none
 
 -- the place p with its least k, where it stands
 unfoldable pub standing : List ℕ → ℕ → Option Standing
-standing s p = if leb (p + 16384) (8 * length s) && basic s p then withPlace p (least 32 (pairAt s p)) else none
+standing s p = if basicWithRoom s p then withPlace p (least 32 (pairAt s p)) else none
 
 -- the first place in the image, counted from bit 0, that stands
 unfoldable pub firstStanding : List ℕ → Option Standing
 firstStanding s = first (8 * length s) (standing s)
 
--- What the search answers of it, and for each case its number and values: the place and the multiframe start, p + 512k.
+-- the first with room and basic alignment, whether it stands or not
+unfoldable pub firstBasic : List ℕ → Option ℕ
+firstBasic s = least (8 * length s) (basicWithRoom s)
 
-abbrev pub found : Option Standing → Found
-found (some w) = At (w .place) (w .k)
-found none = Nothing
+-- What the search answers of the two: the first place that stands; where none does, the first with basic alignment;
+-- where none has that, nothing.
+abbrev pub found : Option Standing → Option ℕ → Found
+found (some w) b = At (w .place) (w .k)
+found none (some p) = BasicAt p
+found none none = Nothing
+
+abbrev pub foundIn : List ℕ → Found
+foundIn s = found (firstStanding s) (firstBasic s)
+
+-- For each case its number and values: the place, and the multiframe start, p + 512k.
 
 abbrev pub numberOf : Found → ℕ
 numberOf (At p k) = 0
+numberOf (BasicAt p) = 15
 numberOf Nothing = 3
 
 abbrev pub placeOf : Found → ℕ
 placeOf (At p k) = p
+placeOf (BasicAt p) = p
 placeOf Nothing = 0
 
 abbrev pub startOf : Found → ℕ
 startOf (At p k) = p + 512 * k
+startOf (BasicAt p) = 0
 startOf Nothing = 0

@@ -13,6 +13,12 @@ pub record Basic (s : List ℕ) (p : ℕ) : Type 0 where
   pub bit-2 : bitAt s (p + 257) ≡ 1
   pub word-again : field s (p + 513) 7 ≡ 27
 
+-- the first place with basic alignment and 16,384 bits from it to the end of the image; places before it have these too
+pub record BasicFirst (s : List ℕ) (p : ℕ) : Type 0 where
+  pub room : p + 16384 ≤ 8 * length s
+  pub basic : Basic s p
+  pub before : (q : ℕ) → q < p → Basic s q → ⊥
+
 -- the signal is at k: six marks from k on are 0, 0, 1, 0, 1, 1
 abbrev pub Signal : List ℕ → ℕ → ℕ → Type 0
 Signal s p k = (i : ℕ) → i < 6 → mark s p (k + i) ≡ getD signal i 0

@@ -2,18 +2,20 @@
 pub mod ask;
 
 ghost use mathlib.Core.Path.{_≡_};
-ghost use mathlib.Core.Bool.{true};
-ghost use Prim.Native.Nat.{ℕ, _+_, _-_, _*_, _/_, _%_, _^_, _<_, _≤_};
+ghost use mathlib.Core.Option.{none};
+ghost use Prim.Native.Nat.{_+_, _-_, _*_, _^_, _<_, _≤_, min};
+ghost use lib.Dec.{ltb};
 ghost use lib.ListN.{length};
+ghost use Rattle.base.specs.Choice.{whenSo};
 ghost use Rattle.line.specs.Bit.{Room};
-ghost use Rattle.align.specs.Place.{basic, signalAt, againAt, pairAt, firstStanding, found};
+ghost use Rattle.align.specs.Place.{basic, signalAt, againAt, pairAt, found, foundIn};
 ghost use Rattle.align.specs.Stands.{Basic};
-ghost use Rattle.line.specs.Window.{One};
-ghost use Rattle.align.specs.Window.{Marks, SignalIn, Signals, Pairs, NoneStands};
+ghost use Rattle.align.specs.Window.{Holds, NoneFrom, Marks, SignalIn, Signals, Pairs, Paired, Wanted};
 
-// the place that stands, with its least k, or that none does
+// the place that stands, with its least k; where none does, the first with basic alignment, if there is one
 pub enum Found {
     At { place: usize, k: usize },
+    BasicAt { place: usize },
     Nothing,
 }
 
@@ -26,6 +28,12 @@ pub enum Why {
     SecondWord { bit: usize },
     NoPair,
     Refused { number: u64 },
+}
+
+// a window of the search: its octet, and its places that have basic alignment
+struct Hit {
+    octet: usize,
+    places: u64,
 }
 
 // basic alignment, left at the first thing that is wrong
@@ -65,36 +73,80 @@ fn pair(s: &[u8], p: usize, k: usize) -> bool
     signal(s, p, k) && (again(s, p, k, 1) || (again(s, p, k, 2) || again(s, p, k, 3)))
 }
 
-// bit n is set where 0011011, which is 0, 011, 011, ends there in both windows
-fn words(v: u64, w: u64) -> u64
-    ensures { λ r. ⌜ ((n : ℕ) → n < 57 → v / 2 ^ n % 2 ^ 7 ≡ 27 → w / 2 ^ n % 2 ^ 7 ≡ 27 → One r n) ⌝ }
+// Windows, for the places from octet i on: a set of them is a number whose highest bit stands for the place 8i, the next
+// for the next. `ones` alone has each three bits lower.
+
+// where both words have their ones: 11, a bit, 11
+fn ones(s: &[u8], i: usize) -> u64
+    requires { ⌜ Room (now s) (8 * i) 576 ⌝ }
+    ensures { λ r. ⌜ Holds (Basic (now (s .entry))) i 60 r ⌝ }
 {
-    let both = v & w;
-    let any = v | w;
-    let threes = !(any >> 2) & (both >> 1) & both;
-    !(any >> 6) & (threes >> 3) & threes
+    let both = line::turned(line::eight_octets(s, i) & line::eight_octets(s, i + 64));
+    let twos = both & (both << 1);
+    twos & (twos << 3)
 }
 
-// bit 56 - o is 1 where the place 8i + o, o below 56, has basic alignment
-fn starts(s: &[u8], i: usize) -> u64
-    requires { ⌜ Room (now s) (8 * i) 16384 ⌝ }
-    ensures { λ r. ⌜ ((o : ℕ) → o < 56 → Basic (now (s .entry)) (8 * i + o) → One r (56 - o)) ⌝ }
+// where both have their zeros: 00, two bits, 0
+fn zeros(s: &[u8], i: usize) -> u64
+    requires { ⌜ Room (now s) (8 * i) 576 ⌝ }
+    ensures { λ r. ⌜ Holds (Basic (now (s .entry))) i 63 r ⌝ }
 {
-    let h = words(line::window(s, i), line::window(s, i + 64));
-    if h == 0 {
+    let none = !line::turned(line::eight_octets(s, i) | line::eight_octets(s, i + 64));
+    (none << 1) & (none << 2) & (none << 5)
+}
+
+// the places with basic alignment: most windows are done with at the first test
+fn starts(s: &[u8], i: usize) -> u64
+    requires { ⌜ Room (now s) (8 * i) 576 ⌝ }
+    ensures { λ r. ⌜ Holds (Basic (now (s .entry))) i 63 r ⌝ }
+{
+    let one = ones(s, i);
+    if one == 0 {
         return 0;
     }
-    h & (line::window(s, i + 32) >> 6)
+    let with_bit_2 = (one << 3) & (line::window(s, i + 32) << 1);
+    if with_bit_2 == 0 {
+        return 0;
+    }
+    with_bit_2 & zeros(s, i)
 }
 
-// a window of each of the 32 marks
+// the first window from octet i on that has such places, with these, or one past the end; four windows go by for each
+// look at the end
+fn next_hit(s: &[u8], i: usize, end: usize) -> Hit
+    requires { ⌜ (length (now s) < 2 ^ 60) × (i ≤ length (now s)) × (end ≡ length (now s) + 1 - 2048) ⌝ }
+    ensures { λ r. ⌜ (i ≤ r .octet)
+        × (r .octet ≤ length (now (s .entry)))
+        × NoneFrom (Basic (now (s .entry))) (8 * i) (8 * r .octet)
+        × (r .octet < end → Holds (Basic (now (s .entry))) (r .octet) 63 (r .places)) ⌝ }
+{
+    let mut j = i;
+    while j < end {
+        for w in 0..4 {
+            let places = starts(s, j + 7 * w);
+            if places != 0 {
+                return Hit {
+                    octet: j + 7 * w,
+                    places,
+                };
+            }
+        }
+        j += 28;
+    }
+    Hit {
+        octet: j,
+        places: 0,
+    }
+}
+
+// the octets of each of the 32 marks
 fn marks(s: &[u8], i: usize) -> [u64; 32]
     requires { ⌜ Room (now s) (8 * i) 16384 ⌝ }
     ensures { λ r. ⌜ Marks (now (s .entry)) i 32 r ⌝ }
 {
     let mut m = [0u64; 32];
     for k in 0..32 {
-        m[k] = line::window(s, i + 32 + 64 * k);
+        m[k] = line::eight_octets(s, i + 32 + 64 * k);
     }
     m
 }
@@ -128,37 +180,101 @@ fn pairs(g: &[u64; 43]) -> u64
     r
 }
 
-// true only where none of the 56 places from octet i on stands
-fn none_stands(s: &[u8], i: usize) -> bool
+// the places with a pair of signals; as all marks of a place lie at one bit of their octets, these are turned last
+fn paired(s: &[u8], i: usize) -> u64
     requires { ⌜ Room (now s) (8 * i) 16384 ⌝ }
-    ensures { λ r. ⌜ (r ≡ true → NoneStands (now (s .entry)) i) ⌝ }
+    ensures { λ r. ⌜ Holds (Paired (now (s .entry))) i 63 r ⌝ }
 {
-    let h = starts(s, i);
-    if h == 0 {
-        return true;
-    }
     let m = marks(s, i);
     let g = signals(&m);
-    h & (pairs(&g) >> 7) == 0
+    line::turned(pairs(&g))
 }
 
-// the first place that stands, with its least k; at an octet's start 56 places are left out where none of them can
-// stand
+// the places that the search has to look at, among those with basic alignment: all of them, or, once one is known, those
+// with a pair of signals
+fn wanted(s: &[u8], i: usize, basic: u64, known: bool) -> u64
+    requires { ⌜ Room (now s) (8 * i) 16384 × Holds (Basic (now s)) i 63 basic ⌝ }
+    ensures { λ r. ⌜ Holds (Wanted (now (s .entry)) known) i 63 r ⌝ }
+{
+    if !known {
+        return basic;
+    }
+    basic & paired(s, i)
+}
+
+// how many octets have a place with room
+fn octets_with_room(s: &[u8]) -> usize
+    requires { ⌜ length (now s) < 2 ^ 60 ⌝ }
+    ensures { λ r. ⌜ r ≡ length (now (s .entry)) + 1 - 2048 ⌝ }
+{
+    let n = s.len() + 1;
+    if n < 2048 {
+        return 0;
+    }
+    n - 2048
+}
+
+// past places that the search need not look at, from an octet's start on
+fn onward(s: &[u8], p: usize, end: usize, known: bool) -> usize
+    requires { ⌜ (length (now s) < 2 ^ 60) × (p ≤ 8 * length (now s)) × (end ≡ length (now s) + 1 - 2048) ⌝ }
+    ensures { λ r. ⌜ (p ≤ r)
+        × (r ≤ 8 * length (now (s .entry)))
+        × NoneFrom (Wanted (now (s .entry)) known) p r ⌝ }
+{
+    if p % 8 != 0 {
+        return p;
+    }
+    let mut i = p / 8;
+    loop {
+        let hit = next_hit(s, i, end);
+        i = hit.octet;
+        if end <= i {
+            return 8 * i;
+        }
+        let o = u64::leading_zeros(wanted(s, i, hit.places, known)) as usize;
+        if o < 56 {
+            return 8 * i + o;
+        }
+        i += 7;
+    }
+}
+
+// the lesser of two
+fn lesser(a: usize, b: usize) -> usize
+    ensures { λ r. ⌜ r ≡ min a b ⌝ }
+{
+    if a < b {
+        return a;
+    }
+    b
+}
+
+// what is answered where no place stands: the first with basic alignment, if it is before the end
+fn unpaired(first: usize, bits: usize) -> Found
+    ensures { λ r. ⌜ r ≡ found none (whenSo (ltb first bits) first) ⌝ }
+{
+    if first < bits {
+        return Found::BasicAt { place: first };
+    }
+    Found::Nothing
+}
+
+// the first place that stands, with its least k, or else the first with basic alignment, which is noted on the way
 pub fn find(s: &[u8]) -> Found
     requires { ⌜ length (now s) < 2 ^ 60 ⌝ }
-    ensures { λ r. ⌜ r ≡ found (firstStanding (now (s .entry))) ⌝ }
+    ensures { λ r. ⌜ r ≡ foundIn (now (s .entry)) ⌝ }
 {
     let bits = 8 * s.len();
+    let end = octets_with_room(s);
     let mut p = 0;
+    let mut first = bits;
     'search: loop {
+        p = onward(s, p, end, first < bits);
         if bits < p + 16384 {
-            break 'search Found::Nothing;
-        }
-        if p % 8 == 0 && none_stands(s, p / 8) {
-            p += 56;
-            continue 'search;
+            break 'search unpaired(first, bits);
         }
         if basic(s, p) {
+            first = lesser(first, p);
             for k in 0..19 {
                 if pair(s, p, k) {
                     break 'search Found::At { place: p, k };

@@ -1,12 +1,13 @@
 -- The proof of Demand1.
-use Prim.Native.Nat.{ℕ, _*_, _≤_}
+use Prim.Native.Nat.{ℕ, suc, _*_, _≤_}
 use mathlib.Core.Path.{_≡_, refl, sym, ap, _∙_}
 use mathlib.Core.List.{List, [], _∷_, _++_}
 use native.Mathlib.Omega.{arith}
-use borrow.Author.Tests.{le-leb}
+use borrow.Author.Tests.{le-leb, ne-eqb}
 use lib.ListN.{length, drop}
 use lib.Seq.{drop-at}
 use Rattle.base.specs.Answer.{accepted}
+use Rattle.base.specs.Choice.{if_then_else_}
 use Rattle.base.proofs.AnswerLaws.{accepted-so, first-listed}
 use Rattle.e1.specs.Payload.{multiframes}
 use Rattle.align.specs.Why.{whyRefusals, whyRefusal}
@@ -50,7 +51,13 @@ demand-1 =
       why-number = λ s p. rw (why-number s p) (first-listed (whyRefusals s p));
       write-number = λ p o c out r out' h. rw (wrote-number h) (first-listed (writes.refusals p o c (length out)));
       call-number = laws.number-is-listed;
-      read-refused = read-refused;
+      read-refused = λ s payload slot0 r payload' slot0' n h e.
+          let f = read-refused s payload slot0 r payload' slot0' n h e in
+          let at = ap (λ (x : Reading). x .place) (f .0) in
+          (f .0 ∙ ap (reads.refuse (suc n)) (sym at), f .1, f .2);
+      read-no-place = λ s payload slot0 r payload' slot0' n h e other.
+          ap (λ (x : Reading). x .place) (read-refused s payload slot0 r payload' slot0' n h e .0)
+          ∙ ap (λ t. if t then reads.placeIn s else 0) (ne-eqb (suc n) 15 other);
       why-refused = λ s p n e. rw (why-refused s p n .1 (sym (why-number s p) ∙ e)) refl;
       write-refused = λ p o c out r out' n h e. wrote-refused n h e;
       call-refused = laws.refused-changes-nothing;

@@ -1,10 +1,10 @@
 -- Demand 2 holds.
 use Prim.Native.Nat.{ℕ, suc, _+_, _-_, _*_, _%_, _≤_, _<_}
-use mathlib.Core.Path.{_≡_, sym, ap, ap₂, _∙_}
+use mathlib.Core.Path.{_≡_, refl, sym, ap, ap₂, _∙_}
 use mathlib.Core.Bool.{Bool, false, _||_}
 use mathlib.Core.List.{List, _++_}
-use mathlib.Core.Logic.{_↔_, Iff·trans}
-use mathlib.Core.Option.{none}
+use mathlib.Core.Logic.{_↔_, Iff·trans, _⊎_, ⊎-elim, inl, inr}
+use mathlib.Core.Option.{Option, none, some}
 use native.Mathlib.Omega.{arith}
 use borrow.Author.Tests.{le-ltb}
 use lib.Dec.{ltb}
@@ -16,17 +16,21 @@ use Rattle.base.proofs.AnswerLaws.{accepted-so}
 use Rattle.e1.specs.Frame.{frameAt, slotAt, signal}
 use Rattle.e1.proofs.WordLaws.{word-holds}
 use Rattle.e1.specs.Payload.{indexOf, multiframes}
-use Rattle.align.specs.Stands.{Stands}
+use Rattle.align.specs.Place.{firstBasic, foundIn}
+use Rattle.align.specs.Stands.{Basic, BasicFirst, Stands}
+use Rattle.align.specs.declared.Found.{Found}
+use Rattle.align.specs.declared.Found.the-variants.{At, BasicAt, Nothing}
 use Rattle.read.specs.Reading.{whole, loss, lostAt, usedOf, slots, payloadOf, slot0Of, wordErrors, wordBits, compared}
 use Rattle.read.specs.Reading.{errored, zerosE, farEnd}
 use Rattle.read.specs.Entry as reading
 use Rattle.read.specs.Entry.{Read, GoodLength}
 use Rattle.read.proofs.Laws as reads
-use Rattle.read.proofs.EntryLaws.{number-3, accepts, place-is, start-is, read-number, read-accepted, read-place}
+use Rattle.read.proofs.EntryLaws.{told-3, told-15, refused-3, refused-15, accepts, place-is, start-is}
+use Rattle.read.proofs.EntryLaws.{read-number, read-accepted, read-refused, read-place}
 use Rattle.crc.proofs.Division.{check-divides, check-unique}
-use Rattle.align.proofs.Laws.{some-k, none-at-all, finds-at, finds-nothing}
+use Rattle.align.proofs.Laws.{some-k, none-at-all, none-basic, basic-first, finds-at, finds-basic, finds-nothing}
 use Rattle.claims.proofs.Standard.{standard-single}
-use Rattle.claims.specs.Demand2.{Accepted, Standard, zeroEs, ReadBack, Demand2}
+use Rattle.claims.specs.Demand2.{Accepted, OneOf, Standard, zeroEs, ReadBack, Demand2}
 use Rattle.read.specs.declared.Reading.{Reading}
 use Rattle.write.specs.Writing.{carries, written, overheadOf}
 use Rattle.write.specs.Inputs.{Inputs}
@@ -218,12 +222,56 @@ module _ (p o : List ℕ) (c n : ℕ) (g : Inputs p o c n) where
                   ∙ writes.overhead-back g;
             }
 
-pub none-so : (s payload slot0 : List ℕ) (r : Reading) (payload' slot0' : List ℕ) → GoodLength s
-    → Read s payload slot0 r payload' slot0' → r .number ≡ 3 ↔ ((p k : ℕ) → Stands s p k → ⊥)
-none-so s payload slot0 r payload' slot0' good h =
-    let e = read-number s payload slot0 r payload' slot0' h in
-    let w = number-3 s (length payload) (length slot0) good in
-    (λ z. w .0 (sym e ∙ z), λ n. e ∙ w .1 n)
+-- what the numbers 3 and 15 tell
+module _ (s payload slot0 : List ℕ) (r : Reading) (payload' slot0' : List ℕ) (h : Read s payload slot0 r payload' slot0') where
+  is : r .number ≡ reading.refusal s (length payload) (length slot0)
+  is = read-number s payload slot0 r payload' slot0' h
+
+  pub found-none : r .number ≡ 3 → GoodLength s × (foundIn s ≡ Nothing)
+  found-none e = told-3 s (length payload) (length slot0) (sym is ∙ e)
+
+  pub found-only : r .number ≡ 15 → GoodLength s × (foundIn s ≡ BasicAt (r .place))
+  found-only e =
+      let t = told-15 s (length payload) (length slot0) (sym is ∙ e) in
+      let at : r .place ≡ reading.placeIn s = ap (λ (x : Reading). x .place) (read-refused s payload slot0 r payload' slot0' 14 h e .0) in
+      (t .0, t .1 ∙ ap BasicAt (sym at))
+
+  pub basic-place : r .number ≡ 15 → BasicFirst s (r .place)
+  basic-place e = finds-basic s (r .place) .0 (found-only e .1) .0
+
+  module _ (good : GoodLength s) where
+    no-basic : r .number ≡ 3 ↔ ((p : ℕ) → p + 16384 ≤ 8 * length s → Basic s p → ⊥)
+    no-basic = (
+      λ e. finds-nothing s .0 (found-none e .1),
+      λ n. is ∙ refused-3 s (length payload) (length slot0) good (finds-nothing s .1 n),
+    )
+
+    basic-only : r .number ≡ 15 ↔ ((p : ℕ) × BasicFirst s p) × ((p k : ℕ) → Stands s p k → ⊥)
+    basic-only = (
+      λ e. let f = finds-basic s (r .place) .0 (found-only e .1) in ((r .place, f .0), f .1),
+      λ w. is ∙ refused-15 s (length payload) (length slot0) good (w .0 .0) (finds-basic s (w .0 .0) .1 (w .0 .1, w .1)),
+    )
+
+    pub none-so : (r .number ≡ 3) ⊎ (r .number ≡ 15) ↔ ((p k : ℕ) → Stands s p k → ⊥)
+    none-so = (⊎-elim (λ e p k w. no-basic .0 e p (w .room) (w .basic)) (λ e. basic-only .0 e .1), λ n. back n (firstBasic s) refl)
+      where
+        back : ((p k : ℕ) → Stands s p k → ⊥) → (o : Option ℕ) → firstBasic s ≡ o → (r .number ≡ 3) ⊎ (r .number ≡ 15)
+        back n none e = inl (no-basic .1 (none-basic s .0 e))
+        back n (some p) e = inr (basic-only .1 ((p, basic-first s p .0 e), n))
+
+    one-of-three : OneOf (r .number ≡ 3) (r .number ≡ 15) ((p : ℕ) × (k : ℕ) × Stands s p k)
+    one-of-three =
+        record {
+          some = by (foundIn s) refl;
+          not-ab = λ e f. omega arith;
+          not-ac = λ e w. none-so .0 (inl e) (w .0) (w .1) (w .2);
+          not-bc = λ e w. none-so .0 (inr e) (w .0) (w .1) (w .2);
+        }
+      where
+        by : (f : Found) → foundIn s ≡ f → (r .number ≡ 3) ⊎ ((r .number ≡ 15) ⊎ ((p : ℕ) × (k : ℕ) × Stands s p k))
+        by Nothing e = inl (is ∙ refused-3 s (length payload) (length slot0) good e)
+        by (BasicAt p) e = inr (inl (is ∙ refused-15 s (length payload) (length slot0) good p e))
+        by (At p k) e = inr (inr (p, k, finds-at s p k .0 e .stands))
 
 pub demand-2 : Demand2
 demand-2 =
@@ -233,11 +281,16 @@ demand-2 =
           let a = reads-so s payload slot0 r payload' slot0' h z in
           let e = reads.lost-at s (r .start) (r .whole) i l in
           (λ w. e .0 (sym (a .lost) ∙ w), λ w. a .lost ∙ e .1 w);
-      none = none-so;
+      none = λ s payload slot0 r payload' slot0' good h. none-so s payload slot0 r payload' slot0' h good;
       none-at-all = λ s payload slot0 r payload' slot0' good h.
-          Iff·trans (none-so s payload slot0 r payload' slot0' good h) (none-at-all s);
+          Iff·trans (none-so s payload slot0 r payload' slot0' h good) (none-at-all s);
+      no-basic = λ s payload slot0 r payload' slot0' good h. no-basic s payload slot0 r payload' slot0' h good;
+      basic-only = λ s payload slot0 r payload' slot0' good h. basic-only s payload slot0 r payload' slot0' h good;
+      basic-place = basic-place;
+      one-of-three = λ s payload slot0 r payload' slot0' good h. one-of-three s payload slot0 r payload' slot0' h good;
       some-k = some-k;
       found-at = finds-at;
+      found-basic = finds-basic;
       found-nothing = finds-nothing;
       writes = λ p o c out r out' octets w z.
           let a = wrote-accepted w z in

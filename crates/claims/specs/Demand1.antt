@@ -4,6 +4,7 @@ use Prim.Native.Nat.{ℕ, suc, _*_, _≤_}
 use mathlib.Core.Path.{_≡_}
 use mathlib.Core.Bool.{true, false}
 use mathlib.Core.List.{List, [], _∷_}
+use mathlib.Core.Logic.{_≢_}
 use lib.ListN.{length, getD, take, drop}
 use Rattle.base.specs.Answer.{among}
 use Rattle.e1.specs.Payload.{multiframes}
@@ -23,15 +24,18 @@ use Rattle.exchange.specs.Runs.{quiet, heard, anyCall, isBoundary, isCommit, is
 pub record Demand1 : Type 0 where
   -- it answers, or refuses by a number from its list of the table; the calls on a state have theirs in `numbersOf`
   pub read-number : (s payload slot0 : List ℕ) (r : Reading) (payload' slot0' : List ℕ)
-      → Read s payload slot0 r payload' slot0' → among (r .number) (0 ∷ 1 ∷ 2 ∷ 3 ∷ 4 ∷ []) ≡ true
+      → Read s payload slot0 r payload' slot0' → among (r .number) (0 ∷ 1 ∷ 2 ∷ 3 ∷ 15 ∷ 4 ∷ []) ≡ true
   pub why-number : (s : List ℕ) (p : ℕ) → among (whyNumber (why s p)) (0 ∷ 1 ∷ 2 ∷ 14 ∷ []) ≡ true
   pub write-number : (p o : List ℕ) (c : ℕ) (out : List ℕ) (r : Written) (out' : List ℕ)
       → Wrote p o c out r out' → among (r .number) (0 ∷ 5 ∷ 6 ∷ 7 ∷ 4 ∷ []) ≡ true
   pub call-number : (s : State) (c : Call) → among (answer s c .number) (0 ∷ numbersOf c) ≡ true
-  -- a refusal changes no octet and no state, and answers zeros beside its number
+  -- A refusal changes no octet and no state, and answers zeros beside its number. There is one exception: number 15 of
+  -- a reading has a place beside it, and Demand 2 says which.
   pub read-refused : (s payload slot0 : List ℕ) (r : Reading) (payload' slot0' : List ℕ) (n : ℕ)
       → Read s payload slot0 r payload' slot0' → r .number ≡ suc n
-      → (r ≡ reads.refuse (suc n)) × (payload' ≡ payload) × (slot0' ≡ slot0)
+      → (r ≡ reads.refuse (suc n) (r .place)) × (payload' ≡ payload) × (slot0' ≡ slot0)
+  pub read-no-place : (s payload slot0 : List ℕ) (r : Reading) (payload' slot0' : List ℕ) (n : ℕ)
+      → Read s payload slot0 r payload' slot0' → r .number ≡ suc n → suc n ≢ 15 → r .place ≡ 0
   pub why-refused : (s : List ℕ) (p n : ℕ) → whyNumber (why s p) ≡ suc n
       → whyValues (why s p) ≡ suc n ∷ 0 ∷ 0 ∷ 0 ∷ []
   pub write-refused : (p o : List ℕ) (c : ℕ) (out : List ℕ) (r : Written) (out' : List ℕ) (n : ℕ)

@@ -2,7 +2,7 @@
 use Prim.Native.Nat.{ℕ, _+_, _-_, _*_, _/_, _%_, _^_, _≤_, _<_}
 use mathlib.Core.Path.{_≡_}
 use mathlib.Core.List.{List, _++_}
-use mathlib.Core.Logic.{_↔_}
+use mathlib.Core.Logic.{_↔_, _⊎_}
 use lib.Bits.{bitXor}
 use lib.ListN.{length, getD, take}
 use Rattle.base.specs.Tab.{tab, sum}
@@ -12,12 +12,12 @@ use Rattle.crc.specs.Polynomial.{poly, timesGen}
 use Rattle.e1.specs.Frame.{frameAt, slotAt, signal}
 use Rattle.e1.specs.Block.{blockCheck, carried}
 use Rattle.e1.specs.Payload.{indexOf, multiframes}
-use Rattle.align.specs.Place.{startOf}
-use Rattle.align.specs.Stands.{Basic, Pair, Stands, StandsFirst}
-use Rattle.align.specs.declared.Found.the-variants.{At, Nothing}
+use Rattle.align.specs.Place.{foundIn, startOf}
+use Rattle.align.specs.Stands.{Basic, BasicFirst, Pair, Stands, StandsFirst}
+use Rattle.align.specs.declared.Found.the-variants.{At, BasicAt, Nothing}
 use Rattle.read.specs.Reading.{whole, loss, lostAt, usedOf, wordErrors, wordBits, compared, errored, farEnd}
 use Rattle.read.specs.Loss.{Loss}
-use Rattle.read.specs.Entry.{Read, GoodLength, foundIn}
+use Rattle.read.specs.Entry.{Read, GoodLength}
 use Rattle.read.specs.declared.Reading.{Reading}
 use Rattle.write.specs.Entry.{Wrote}
 use Rattle.write.specs.Writing.{carries, written, overheadOf}
@@ -42,6 +42,13 @@ pub record Accepted (s payload slot0 : List ℕ) (r : Reading) (payload' slot0' 
   pub octet : (f j : ℕ) → f < 16 * r .used → 1 ≤ j → j ≤ 31
       → getD payload' (indexOf f j) 0 ≡ octetAt s (slotAt (r .start) f j)
   pub octet-0 : (f : ℕ) → f < 16 * r .used → getD slot0' f 0 ≡ octetAt s (slotAt (r .start) f 0)
+
+-- one of the three holds, and no two
+pub record OneOf (A B C : Type 0) : Type 0 where
+  pub some : A ⊎ (B ⊎ C)
+  pub not-ab : A → B → ⊥
+  pub not-ac : A → C → ⊥
+  pub not-bc : B → C → ⊥
 
 -- ---- writing
 
@@ -89,17 +96,33 @@ pub record Demand2 : Type 0 where
   pub loss : (s payload slot0 : List ℕ) (r : Reading) (payload' slot0' : List ℕ)
       → Read s payload slot0 r payload' slot0' → r .number ≡ 0
       → (i : ℕ) → 0 < i → r .lost ≡ 2 * i ↔ Loss s (r .start) (r .whole) i
-  -- no alignment answered exactly when none stands: nowhere is there room, basic alignment and some k with a pair of
-  -- signals
+  -- no alignment answered, by number 3 or 15, exactly when none stands: nowhere is there room, basic alignment and some
+  -- k with a pair of signals
   pub none : (s payload slot0 : List ℕ) (r : Reading) (payload' slot0' : List ℕ) → GoodLength s
-      → Read s payload slot0 r payload' slot0' → r .number ≡ 3 ↔ ((p k : ℕ) → Stands s p k → ⊥)
+      → Read s payload slot0 r payload' slot0'
+      → (r .number ≡ 3) ⊎ (r .number ≡ 15) ↔ ((p k : ℕ) → Stands s p k → ⊥)
   pub none-at-all : (s payload slot0 : List ℕ) (r : Reading) (payload' slot0' : List ℕ) → GoodLength s
       → Read s payload slot0 r payload' slot0'
-      → r .number ≡ 3 ↔ ((p k : ℕ) → p + 16384 ≤ 8 * length s → Basic s p → Pair s p k → ⊥)
+      → (r .number ≡ 3) ⊎ (r .number ≡ 15) ↔ ((p k : ℕ) → p + 16384 ≤ 8 * length s → Basic s p → Pair s p k → ⊥)
+  -- 3 exactly when no place with room has basic alignment; 15 exactly when one has, and none stands
+  pub no-basic : (s payload slot0 : List ℕ) (r : Reading) (payload' slot0' : List ℕ) → GoodLength s
+      → Read s payload slot0 r payload' slot0'
+      → r .number ≡ 3 ↔ ((p : ℕ) → p + 16384 ≤ 8 * length s → Basic s p → ⊥)
+  pub basic-only : (s payload slot0 : List ℕ) (r : Reading) (payload' slot0' : List ℕ) → GoodLength s
+      → Read s payload slot0 r payload' slot0'
+      → r .number ≡ 15 ↔ ((p : ℕ) × BasicFirst s p) × ((p k : ℕ) → Stands s p k → ⊥)
+  -- the place beside 15 is the first such
+  pub basic-place : (s payload slot0 : List ℕ) (r : Reading) (payload' slot0' : List ℕ)
+      → Read s payload slot0 r payload' slot0' → r .number ≡ 15 → BasicFirst s (r .place)
+  -- so of an image of good length exactly one holds: 3, 15, a place stands
+  pub one-of-three : (s payload slot0 : List ℕ) (r : Reading) (payload' slot0' : List ℕ) → GoodLength s
+      → Read s payload slot0 r payload' slot0'
+      → OneOf (r .number ≡ 3) (r .number ≡ 15) ((p : ℕ) × (k : ℕ) × Stands s p k)
   pub some-k : (s : List ℕ) (p k : ℕ) → p + 16384 ≤ 8 * length s → Basic s p → Pair s p k → (l : ℕ) × Stands s p l
   -- what the search answers, case by case
   pub found-at : (s : List ℕ) (p k : ℕ) → foundIn s ≡ At p k ↔ StandsFirst s p k
-  pub found-nothing : (s : List ℕ) → foundIn s ≡ Nothing ↔ ((p k : ℕ) → Stands s p k → ⊥)
+  pub found-basic : (s : List ℕ) (p : ℕ) → foundIn s ≡ BasicAt p ↔ BasicFirst s p × ((q k : ℕ) → Stands s q k → ⊥)
+  pub found-nothing : (s : List ℕ) → foundIn s ≡ Nothing ↔ ((p : ℕ) → p + 16384 ≤ 8 * length s → Basic s p → ⊥)
   -- the writer makes the standard's multiframes, and at their known places stands every octet and overhead bit
   pub writes : (p o : List ℕ) (c : ℕ) (out : List ℕ) (r : Written) (out' : List ℕ) → ((i : ℕ) → getD p i 0 < 256)
       → Wrote p o c out r out' → r .number ≡ 0

@@ -2,13 +2,13 @@
 use Prim.Native.Nat.{ℕ, _+_, _*_, _<_}
 use mathlib.Core.Path.{_≡_}
 use mathlib.Core.List.{List}
-use mathlib.Core.Logic.{_↔_}
+use mathlib.Core.Logic.{_↔_, _⊎_}
 use lib.ListN.{length}
 use Rattle.align.specs.Stands.{Stands}
 use Rattle.align.specs.Why.{why}
 use Rattle.align.specs.Says.{Says}
 use Rattle.align.specs.declared.Why.{Why}
-use Rattle.align.specs.declared.Why.the-variants.{NoneFails, Refused}
+use Rattle.align.specs.declared.Why.the-variants.{NoneFails, NoPair, Refused}
 use Rattle.read.specs.Entry.{Read, GoodLength}
 use Rattle.read.specs.declared.Reading.{Reading}
 use Rattle.claims.specs.Accepts.{ToAsk}
@@ -36,4 +36,12 @@ pub record Reasons : Type 0 where
   pub first : (s payload slot0 : List ℕ) (r : Reading) (payload' slot0' : List ℕ)
       → Read s payload slot0 r payload' slot0' → r .number ≡ 0 → FirstSaid s (r .place) (r .start)
   pub nowhere : (s payload slot0 : List ℕ) (r : Reading) (payload' slot0' : List ℕ) → GoodLength s
-      → Read s payload slot0 r payload' slot0' → r .number ≡ 3 ↔ ((p k : ℕ) → why s p ≡ NoneFails k → ⊥)
+      → Read s payload slot0 r payload' slot0'
+      → (r .number ≡ 3) ⊎ (r .number ≡ 15) ↔ ((p k : ℕ) → why s p ≡ NoneFails k → ⊥)
+  -- the place beside number 15 is the first of which it is said that it has no pair of signals, and with number 3 that is
+  -- said of none
+  pub no-pair : (s payload slot0 : List ℕ) (r : Reading) (payload' slot0' : List ℕ)
+      → Read s payload slot0 r payload' slot0' → r .number ≡ 15
+      → (why s (r .place) ≡ NoPair) × ((q : ℕ) → q < r .place → why s q ≡ NoPair → ⊥)
+  pub no-pair-nowhere : (s payload slot0 : List ℕ) (r : Reading) (payload' slot0' : List ℕ)
+      → Read s payload slot0 r payload' slot0' → r .number ≡ 3 → (p : ℕ) → why s p ≡ NoPair → ⊥

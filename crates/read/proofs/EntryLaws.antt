@@ -12,24 +12,34 @@ use lib.Dec.{eqb, ltb}
 use lib.ListN.{length}
 use Rattle.base.proofs.AnswerLaws.{accepted-so, accepted-both, accepted-single, Tells, first-tells}
 use Rattle.base.specs.Answer.{accepted}
-use Rattle.align.specs.Place.{found, numberOf, placeOf, startOf, Standing, firstStanding}
-use Rattle.align.specs.Stands.{Stands, StandsFirst}
-use Rattle.align.proofs.Laws.{first-stands, none-stands, first-within}
-use Rattle.read.specs.Entry.{GoodLength, refuse, reading, accept, refusals, placeIn, startIn, wholeIn, usedIn}
-use Rattle.read.specs.Entry.{refusal, Read}
+use Rattle.align.specs.Place.{found, foundIn, numberOf, placeOf, startOf, Standing, firstStanding, firstBasic}
+use Rattle.align.specs.Stands.{StandsFirst}
+use Rattle.align.specs.declared.Found.{Found}
+use Rattle.align.specs.declared.Found.the-variants.{At, BasicAt, Nothing}
+use Rattle.align.proofs.Laws.{first-stands, first-within}
+use Rattle.read.specs.Entry.{GoodLength, refuse, refusedPlace, reading, accept, refusals, refusal, placeIn, startIn}
+use Rattle.read.specs.Entry.{wholeIn, usedIn, Read}
 use Rattle.read.proofs.Laws.{used-le, whole-fits}
 use Rattle.read.specs.declared.Reading.{Reading}
 
 -- The numbers
 
 -- the search's answer by its number
-found-3 : (o : Option Standing) → eqb (numberOf (found o)) 3 ≡ true → o ≡ none
-found-3 (some w) e = absurd (true≢false (sym e))
-found-3 none e = refl
+numbered-3 : (f : Found) → eqb (numberOf f) 3 ≡ true → f ≡ Nothing
+numbered-3 (At p k) e = absurd (true≢false (sym e))
+numbered-3 (BasicAt p) e = absurd (true≢false (sym e))
+numbered-3 Nothing e = refl
 
-found-0 : (o : Option Standing) → eqb (numberOf (found o)) 3 ≡ false → (w : Standing) × (o ≡ some w)
-found-0 (some w) e = (w, refl)
-found-0 none e = absurd (true≢false e)
+numbered-15 : (f : Found) → eqb (numberOf f) 15 ≡ true → f ≡ BasicAt (placeOf f)
+numbered-15 (At p k) e = absurd (true≢false (sym e))
+numbered-15 (BasicAt p) e = refl
+numbered-15 Nothing e = absurd (true≢false (sym e))
+
+found-0 : (o : Option Standing) (b : Option ℕ) → eqb (numberOf (found o b)) 3 ≡ false
+    → eqb (numberOf (found o b)) 15 ≡ false → (w : Standing) × (o ≡ some w)
+found-0 (some w) b e f = (w, refl)
+found-0 none (some p) e f = absurd (true≢false f)
+found-0 none none e f = absurd (true≢false e)
 
 module _ (s : List ℕ) (a b : ℕ) where
   -- an output is shorter than the call needs
@@ -39,6 +49,10 @@ module _ (s : List ℕ) (a b : ℕ) where
   tells : Tells (refusal s a b) (refusals s a b)
   unfolding refusal
   tells = first-tells (refusals s a b) refl
+
+  -- past the tests of the length
+  tested-good : ltb (length s) 2048 ≡ false → ltb 8192 (length s) ≡ false → GoodLength s
+  tested-good e f = record { long = ltb-false (length s) 2048 e; short = ltb-false 8192 (length s) f }
 
   pub number-1 : refusal s a b ≡ 1 ↔ length s < 2048
   unfolding refusal
@@ -51,17 +65,27 @@ module _ (s : List ℕ) (a b : ℕ) where
     λ h. rw (le-ltb (length s) 2048 (omega arith), lt-ltb 8192 (length s) h),
   )
 
+  -- what 3 and 15 tell of the search
+  pub told-3 : refusal s a b ≡ 3 → GoodLength s × (foundIn s ≡ Nothing)
+  told-3 e =
+      let t = rw e at tells in
+      (tested-good (t .0) (t .1 .0), numbered-3 (foundIn s) (t .1 .1))
+
+  pub told-15 : refusal s a b ≡ 15 → GoodLength s × (foundIn s ≡ BasicAt (placeIn s))
+  unfolding placeIn
+  told-15 e =
+      let t = rw e at tells in
+      (tested-good (t .0) (t .1 .0), numbered-15 (foundIn s) (t .1 .1 .1))
+
   -- of an image of good length
   module _ (good : GoodLength s) where
-    pub refused-3 : firstStanding s ≡ none → refusal s a b ≡ 3
+    pub refused-3 : foundIn s ≡ Nothing → refusal s a b ≡ 3
     unfolding refusal
     refused-3 e = rw (le-ltb (length s) 2048 (good .long), le-ltb 8192 (length s) (good .short), e)
 
-    pub number-3 : refusal s a b ≡ 3 ↔ ((p k : ℕ) → Stands s p k → ⊥)
-    number-3 = (
-      λ e. none-stands s .0 (found-3 (firstStanding s) ((rw e at tells) .1 .1)),
-      λ h. refused-3 (none-stands s .1 h),
-    )
+    pub refused-15 : (p : ℕ) → foundIn s ≡ BasicAt p → refusal s a b ≡ 15
+    unfolding refusal
+    refused-15 p e = rw (le-ltb (length s) 2048 (good .long), le-ltb 8192 (length s) (good .short), e)
 
     -- on which a place stands
     module _ (w : Standing) (e : firstStanding s ≡ some w) where
@@ -75,7 +99,7 @@ module _ (s : List ℕ) (a b : ℕ) where
 
       pub number-4 : refusal s a b ≡ 4 ↔ (a < 496 * usedIn s) ⊎ (b < 16 * usedIn s)
       number-4 = (
-        λ z. which (ltb a (496 * usedIn s)) refl ((rw z at tells) .1 .1 .1),
+        λ z. which (ltb a (496 * usedIn s)) refl ((rw z at tells) .1 .1 .1 .1),
         λ h. refused-4 (elim h [ inl l ↦ rw (lt-ltb a (496 * usedIn s) l) | inr l ↦ rw (lt-ltb b (16 * usedIn s) l) (or-true (ltb a (496 * usedIn s))) ]),
       )
         where
@@ -88,11 +112,11 @@ module _ (s : List ℕ) (a b : ℕ) where
 module _ (s : List ℕ) (w : Standing) (e : firstStanding s ≡ some w) where
   pub place-is : w .place ≡ placeIn s
   unfolding placeIn
-  place-is = sym (ap (λ o. placeOf (found o)) e)
+  place-is = sym (ap (λ o. placeOf (found o (firstBasic s))) e)
 
   pub start-is : w .place + 512 * w .k ≡ startIn s
   unfolding startIn
-  start-is = sym (ap (λ o. startOf (found o)) e)
+  start-is = sym (ap (λ o. startOf (found o (firstBasic s))) e)
 
 -- what holds where the call is accepted
 pub record Ready (s : List ℕ) (a b : ℕ) : Type 0 where
@@ -108,13 +132,13 @@ pub record Ready (s : List ℕ) (a b : ℕ) : Type 0 where
 pub ready : (s : List ℕ) (a b : ℕ) → refusal s a b ≡ 0 → Ready s a b
 ready s a b e =
     let t = rw e at (tells s a b) in
-    let w = found-0 (firstStanding s) (t .1 .1 .0) in
-    let f = or-eq-false-eq-eq-false-and-eq-false (ltb a (496 * usedIn s)) (ltb b (16 * usedIn s)) .0 (t .1 .1 .1 .0) in
+    let w = found-0 (firstStanding s) (firstBasic s) (t .1 .1 .0) (t .1 .1 .1 .0) in
+    let f = or-eq-false-eq-eq-false-and-eq-false (ltb a (496 * usedIn s)) (ltb b (16 * usedIn s)) .0 (t .1 .1 .1 .1 .0) in
     let p = place-is s (w .0) (w .1) in
     let q = start-is s (w .0) (w .1) in
     let r = first-within s (w .0 .place) (w .0 .k) (w .1) in
     record {
-      good = record { long = ltb-false (length s) 2048 (t .0); short = ltb-false 8192 (length s) (t .1 .0) };
+      good = tested-good s a b (t .0) (t .1 .0);
       k = w .0 .k;
       first = rw (← p) (first-stands s (w .0 .place) (w .0 .k) .0 (w .1));
       start = omega arith;
@@ -126,9 +150,9 @@ ready s a b e =
 
 -- The results
 
--- a refusal answers its number and zeros
+-- a refusal answers its number, with 15 a place, and zeros
 pub refused-as : (s payload slot0 : List ℕ) (n : ℕ) → refusal s (length payload) (length slot0) ≡ suc n
-    → Read s payload slot0 (refuse (suc n)) payload slot0
+    → Read s payload slot0 (refuse (suc n) (refusedPlace s (suc n))) payload slot0
 unfolding reading
 refused-as s payload slot0 n e = record { its-answer = rw e; its-payload = refl; its-slot0 = refl }
 
@@ -140,7 +164,7 @@ module _ (s payload slot0 : List ℕ) where
   unfolding reading accept
   read-number r p o h = ap (λ (x : Reading). x .number) (h .its-answer) ∙ go number
     where
-      go : (n : ℕ) → accepted n (accept s) (refuse n) .number ≡ n
+      go : (n : ℕ) → accepted n (accept s) (refuse n (refusedPlace s n)) .number ≡ n
       go zero = refl
       go (suc n) = refl
 
@@ -148,13 +172,13 @@ module _ (s payload slot0 : List ℕ) where
   pub read-accepted : (r : Reading) (p o : List ℕ) → Read s payload slot0 r p o → r .number ≡ 0 → r ≡ accept s
   unfolding reading
   read-accepted r p o h z =
-      h .its-answer ∙ accepted-so number (accept s) (refuse number) (sym (read-number r p o h) ∙ z)
+      h .its-answer ∙ accepted-so number (accept s) (refuse number (refusedPlace s number)) (sym (read-number r p o h) ∙ z)
 
   -- what holds of an accepted answer and of every refusal holds of any answer
-  pub read-either : (P : Reading → Type 0) → P (accept s) → ((n : ℕ) → P (refuse n)) → (r : Reading) (p o : List ℕ)
+  pub read-either : (P : Reading → Type 0) → P (accept s) → ((n q : ℕ) → P (refuse n q)) → (r : Reading) (p o : List ℕ)
       → Read s payload slot0 r p o → P r
   unfolding reading
-  read-either P a f r p o h = subst P (sym (h .its-answer)) (accepted-both P number a (f number))
+  read-either P a f r p o h = subst P (sym (h .its-answer)) (accepted-both P number a (f number (refusedPlace s number)))
 
   -- two results that the contract admits are equal
   pub read-single : (r r' : Reading) (p p' o o' : List ℕ) → Read s payload slot0 r p o → Read s payload slot0 r' p' o'
@@ -166,11 +190,12 @@ module _ (s payload slot0 : List ℕ) where
         accepted-single _ _ _ _ _ _ (ap (λ (x : Reading). x .number) e) (h .its-slot0) (h' .its-slot0),
       )
 
-  -- a refusal is zeros beside its number, and both outputs as they were
+  -- a refusal is zeros beside its number and, with 15, its place; and both outputs as they were
   pub read-refused : (r : Reading) (p o : List ℕ) (n : ℕ) → Read s payload slot0 r p o → r .number ≡ suc n
-      → (r ≡ refuse (suc n)) × (p ≡ payload) × (o ≡ slot0)
+      → (r ≡ refuse (suc n) (refusedPlace s (suc n))) × (p ≡ payload) × (o ≡ slot0)
   read-refused r p o n h e =
-      read-single r (refuse (suc n)) p payload o slot0 h (refused-as s payload slot0 n (sym (read-number r p o h) ∙ e))
+      read-single r (refuse (suc n) (refusedPlace s (suc n))) p payload o slot0 h
+      (refused-as s payload slot0 n (sym (read-number r p o h) ∙ e))
 
   -- the place that is answered is the first that stands, and the start is s = p + 512k with its least k
   pub read-place : (r : Reading) (p o : List ℕ) → Read s payload slot0 r p o → r .number ≡ 0

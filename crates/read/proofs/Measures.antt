@@ -10,7 +10,7 @@ use Rattle.align.specs.Place.{firstStanding}
 use Rattle.align.proofs.Laws.{first-within}
 use Rattle.read.specs.Reading.{whole, loss, lostAt, usedOf, payloadOf, slot0Of, wordErrors, wordBits, compared}
 use Rattle.read.specs.Reading.{errored, farEnd}
-use Rattle.read.specs.Entry.{reading, accept, refuse, startIn, wholeIn, usedIn, refusal, Read, GoodLength}
+use Rattle.read.specs.Entry.{reading, accept, refuse, refusedPlace, startIn, wholeIn, usedIn, refusal, Read, GoodLength}
 use Rattle.read.proofs.Laws.{used-le, whole-fits}
 use Rattle.read.specs.declared.Reading.{Reading}
 use Rattle.read.proofs.EntryLaws.{place-is, start-is}
@@ -79,7 +79,7 @@ module _ (s : List ℕ) (good : GoodLength s) (p k : ℕ) (e : firstStanding s �
         let wholly = payloadOf s (startIn s) (usedIn s) ++ drop (496 * usedIn s) payload in
         let slots = slot0Of s (startIn s) (usedIn s) ++ drop (16 * usedIn s) slot0 in
         record {
-          its-answer = its ∙ sym (accepted-so z (accept s) (refuse z) n);
+          its-answer = its ∙ sym (accepted-so z (accept s) (refuse z (refusedPlace s z)) n);
           its-payload = ep ∙ ap₂ (λ x y. payloadOf s x y ++ drop (496 * y) payload) (d .at) (d .upto)
               ∙ sym (accepted-so (r .number) wholly payload h₀);
           its-slot0 = eo ∙ ap₂ (λ x y. slot0Of s x y ++ drop (16 * y) slot0) (d .at) (d .upto)

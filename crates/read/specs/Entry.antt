@@ -6,9 +6,9 @@ use mathlib.Core.List.{List, [], _∷_, _++_}
 use mathlib.Core.Option.{Option}
 use lib.Dec.{eqb, ltb}
 use lib.ListN.{length, drop}
-use Rattle.align.specs.Place.{firstStanding, found, numberOf, placeOf, startOf}
-use Rattle.align.specs.declared.Found.{Found}
+use Rattle.align.specs.Place.{foundIn, numberOf, placeOf, startOf}
 use Rattle.base.specs.Answer.{accepted, Refusal, _when_, firstOf}
+use Rattle.base.specs.Choice.{if_then_else_}
 use Rattle.read.specs.Reading.{whole, loss, lostAt, usedOf, payloadOf, slot0Of, wordErrors, wordBits, compared}
 use Rattle.read.specs.Reading.{errored, farEnd}
 use Rattle.read.specs.declared.Reading.{Reading}
@@ -19,9 +19,6 @@ pub record GoodLength (s : List ℕ) : Type 0 where
   pub short : length s ≤ 8192
 
 -- the place, the multiframe start, M, the loss and G of an image
-abbrev pub foundIn : List ℕ → Found
-foundIn s = found (firstStanding s)
-
 unfoldable pub placeIn : List ℕ → ℕ
 placeIn s = placeOf (foundIn s)
 
@@ -43,6 +40,7 @@ refusals s a b =
     1 when ltb (length s) 2048
     ∷ 2 when ltb 8192 (length s)
     ∷ 3 when eqb (numberOf (foundIn s)) 3
+    ∷ 15 when eqb (numberOf (foundIn s)) 15
     ∷ 4 when (ltb a (496 * usedIn s) || ltb b (16 * usedIn s))
     ∷ []
 
@@ -66,12 +64,12 @@ accept s =
       wordbits = wordBits s (startIn s) (usedIn s);
     }
 
--- a refusal: zeros beside the number
-abbrev pub refuse : ℕ → Reading
-refuse n =
+-- a refusal: zeros beside the number and the place
+abbrev pub refuse : ℕ → ℕ → Reading
+refuse n p =
     record {
       number = n;
-      place = 0;
+      place = p;
       start = 0;
       whole = 0;
       used = 0;
@@ -83,8 +81,14 @@ refuse n =
       wordbits = 0;
     }
 
+-- the place beside the number n: number 15 alone has one, the first place with basic alignment
+abbrev pub refusedPlace : List ℕ → ℕ → ℕ
+refusedPlace s n = if eqb n 15 then placeIn s else 0
+
 unfoldable pub reading : List ℕ → ℕ → ℕ → Reading
-reading s a b = accepted (refusal s a b) (accept s) (refuse (refusal s a b))
+reading s a b =
+    let n = refusal s a b in
+    accepted n (accept s) (refuse n (refusedPlace s n))
 
 -- what `read` returns, and leaves in the outputs
 pub record Read (s payload slot0 : List ℕ) (r : Reading) (payload' slot0' : List ℕ) : Type 0 where

@@ -11,7 +11,7 @@ ghost use Rattle.read.specs.Reading.{loss, lostAt, usedOf, slots, payloa
 ghost use Rattle.read.specs.Reading.{compared, errored, zerosE, farEnd};
 ghost use Rattle.read.specs.Entry.{Read, GoodLength, refuse};
 
-// What is read: the number is 0, or the refusal's with zeros beside it.
+// What is read: the number is 0, or the refusal's with zeros beside it; with 15 the place is that of `Found::BasicAt`.
 pub struct Reading {
     pub number: u64,
     pub place: usize,
@@ -210,13 +210,13 @@ fn judge(s: &[u8], q: usize, g: usize) -> Judged
     }
 }
 
-// a refusal: zeros beside the number
-fn refused(number: u64) -> Reading
-    ensures { λ r. ⌜ r ≡ refuse number ⌝ }
+// a refusal: zeros beside the number and the place
+fn refused(number: u64, at: usize) -> Reading
+    ensures { λ r. ⌜ r ≡ refuse number at ⌝ }
 {
     Reading {
         number: number,
-        place: 0,
+        place: at,
         start: 0,
         whole: 0,
         used: 0,
@@ -240,7 +240,7 @@ fn read_from(image: &[u8], place: usize, k: usize, payload: &mut [u8], slot0: &m
     let tracked = track(image, start, whole);
     let used = tracked.used;
     if (payload.len() < 496 * used) | (slot0.len() < 16 * used) {
-        return refused(4);
+        return refused(4, 0);
     }
     let judged = judge(image, start, used);
     let farend = far_end(image, start, used);
@@ -267,14 +267,15 @@ pub fn read(image: &[u8], payload: &mut [u8], slot0: &mut [u8]) -> Reading
         r (now (payload .exit)) (now (slot0 .exit)) ⌝ }
 {
     if image.len() < 2048 {
-        return refused(1);
+        return refused(1, 0);
     }
     if 8192 < image.len() {
-        return refused(2);
+        return refused(2, 0);
     }
     let found = align::find(image);
     match found {
         align::Found::At { place, k } => read_from(image, place, k, payload, slot0),
-        align::Found::Nothing => refused(3),
+        align::Found::BasicAt { place } => refused(15, place),
+        align::Found::Nothing => refused(3, 0),
     }
 }

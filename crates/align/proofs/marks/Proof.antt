@@ -1,4 +1,4 @@
--- `marks` meets its contract: at the head of the loop the first k windows are there.
+-- `marks` meets its contract: at the head of the loop the octets of the first k are there.
 use Prim.Native.Nat.{_+_, _-_, _*_, _≤_}
 use mathlib.Core.Path.{_≡_, refl, _∙_}
 use native.Mathlib.Omega.{arith}
@@ -6,6 +6,7 @@ use borrow.Author.Needs.{needs}
 use denote.Ref.{now}
 use lib.ListN.{length, length-set}
 use Rattle.line.specs.Bit.{field}
+use Rattle.line.specs.Window.{turned}
 use Rattle.align.specs.Window.{Marks}
 use Rattle.align.proofs.Rows.{put-more}
 use Rattle.align.proofs.marks.Statement.{statement}
@@ -25,7 +26,7 @@ loop-again c =
     let k = l .loop .k in (
       omega arith,
       length-set m k _ ∙ l .loop .inv .1,
-      put-more (λ j x. x ≡ field (now (a .s)) (8 * (a .i + 32 + 64 * j)) 64) m k _ (omega arith) (l .loop .inv .2) (c .window .ensures),
+      put-more (λ j x. turned 8 x ≡ field (now (a .s)) (8 * (a .i + 32 + 64 * j)) 64) m k _ (omega arith) (l .loop .inv .2) (c .eight-octets .ensures),
     )
 
 pub marks-spec : {M : Type 1} → statement M

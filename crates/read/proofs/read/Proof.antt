@@ -1,12 +1,13 @@
 -- `read` meets its contract: the refusals in their order, and what is read from the place that is found.
-use mathlib.Core.Path.{sym, _∙_}
+use mathlib.Core.Path.{_≡_, sym, ap, _∙_}
 use native.Mathlib.Omega.{arith}
 use borrow.Author.Needs.{needs}
 use lib.ListN.{length}
-use Rattle.align.specs.Place.{firstStanding}
-use Rattle.align.proofs.Laws.{found-at, found-nothing}
-use Rattle.read.specs.Entry.{GoodLength}
-use Rattle.read.proofs.EntryLaws.{number-1, number-2, refused-3, refused-as}
+use Rattle.align.specs.Place.{placeOf, firstStanding, firstBasic}
+use Rattle.align.specs.declared.Found.the-variants.{BasicAt}
+use Rattle.align.proofs.Laws.{found-at}
+use Rattle.read.specs.Entry.{GoodLength, placeIn}
+use Rattle.read.proofs.EntryLaws.{number-1, number-2, refused-3, refused-15, refused-as}
 use Rattle.read.proofs.read.Statement.{statement}
 use Rattle.read.proofs.read.Tie as tie
 
@@ -35,17 +36,32 @@ read-from-requires c κs =
     let m = c .before .before .before in
     let f = m .before .before in
     let a = f .before .before .before .before .before .before .args in
-    (good (f .before), found-at (firstStanding (a .image .now)) _ _ (sym (f .find .ensures) ∙ m .found .given .1))
+    let s = a .image .now in
+    (good (f .before), found-at (firstStanding s) (firstBasic s) _ _ (sym (f .find .ensures) ∙ m .found .given .1))
 
+-- number 15, with the place that the search found
 returns-4 : tie.Need-returns-4
+unfolding placeIn
 returns-4 c =
+    let m = c .before .before in
+    let f = m .before .before in
+    let a = f .before .before .before .before .before .before .args in
+    let s = a .image .now in
+    let p = a .payload .now in
+    let o = a .slot0 .now in
+    let e = sym (f .find .ensures) ∙ m .found2 .given .1 in
+    let at : placeIn s ≡ placeOf (BasicAt _) = ap placeOf e in
+    rw (c .refused3 .ensures) (rw at at (refused-as s p o 14 (refused-15 s (length p) (length o) (good (f .before)) _ e)))
+
+returns-5 : tie.Need-returns-5
+returns-5 c =
     let f = c .before .before .before in
     let a = f .before .before .before .before .before .before .args in
     let s = a .image .now in
     let p = a .payload .now in
     let o = a .slot0 .now in
-    let e = found-nothing (firstStanding s) (sym (f .find .ensures) ∙ c .before .enum-told .given .1) in
-    rw (c .refused3 .ensures) (refused-as s p o 2 (refused-3 s (length p) (length o) (good (f .before)) e))
+    let e = sym (f .find .ensures) ∙ c .before .enum-told .given .1 in
+    rw (c .refused4 .ensures) (refused-as s p o 2 (refused-3 s (length p) (length o) (good (f .before)) e))
 
 pub read-spec : {M : Type 1} → statement M
 read-spec =
@@ -62,5 +78,8 @@ read-spec =
     (search needs)
     (search needs)
     (search needs)
+    (search needs)
+    (search needs)
     (λ c. c .before .before .before .before .read-from .ensures)
-    returns-4)
+    returns-4
+    returns-5)
