@@ -12,6 +12,7 @@ fn picture(image: &[u8], asked: Asked) {
     let r = read::read(image, &mut payload, &mut slot0);
     if r.number != 0 {
         program::refused(b"picture", r.number);
+        program::name_place(b"picture", r.number, r.place);
         return;
     }
     program::written(

@@ -53,6 +53,17 @@ pub fn answer_refused(program: &[u8], number: u64) {
     refused(program, number);
 }
 
+// with number 15, a line more on standard error: the place that goes with it, of which `why` can be asked
+pub fn name_place(program: &[u8], number: u64, place: usize) {
+    if number != 15 {
+        return;
+    }
+    io::write_all(STDERR_FILENO, program);
+    io::write_all(STDERR_FILENO, b": the first place with basic alignment is ");
+    io::print_decimal(STDERR_FILENO, place as u64);
+    io::write_all(STDERR_FILENO, b"\n");
+}
+
 // the place that argument `at` names; where it names none, that is said
 pub fn place(program: &[u8], at: usize) -> Spelt {
     let mut word = io::buffer();

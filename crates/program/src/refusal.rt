@@ -7,7 +7,7 @@ pub fn print_refusal(fd: i32, number: u64) -> bool {
         b"accepted\n\
         the line is under 2,048 octets; four multiframes are the least that can be read\n\
         the line is over 8,192 octets; sixteen multiframes are the most that is read\n\
-        no place stands: no frames with two multiframe signals are found in the line\n\
+        no frames are found: no place with 16,384 bits to the line's end has basic alignment\n\
         an output has no room for what is to be written\n\
         the payload is not 1 to 16 multiframes of 496 octets (504 with their overhead)\n\
         the overhead is not 8 octets a multiframe, or one has a bit that must be 0\n\
@@ -18,7 +18,8 @@ pub fn print_refusal(fd: i32, number: u64) -> bool {
         the key is off; stage, commit and drop need it on\n\
         nothing is staged; commit and drop need a staged map\n\
         the key's position is 0 (off) or 1 (on)\n\
-        fewer than 16,384 bits are left from that place to the line's end",
+        fewer than 16,384 bits are left from that place to the line's end\n\
+        basic alignment is found, but no pair of multiframe signals with it; is the sender's CRC-4 on?",
         number,
     )
 }

@@ -37,6 +37,7 @@ fn report(image: &[u8]) {
         return;
     }
     program::answer_refused(b"report", r.number);
+    program::name_place(b"report", r.number, r.place);
 }
 
 // No line over 8,192 octets is read, so one octet more is enough to know that it is longer.

@@ -13,4 +13,4 @@ pub picture-spec : {M : Type 1} → statement M
 picture-spec =
     tie.close
     (tie.spec (search needs) (search needs) (search needs) (search needs) (search needs) (search needs) (search needs)
-    line-requires (search needs) (search needs))
+    (search needs) (search needs) line-requires (search needs) (search needs))
