@@ -58,6 +58,8 @@ int main(int argc, char **argv)
         print(answer);
     else
         printf("refused %lu\n", (unsigned long)number);
+    if (number == JK_BASIC_ONLY)
+        fprintf(stderr, "%s: basic alignment and no more, first at place %lu\n", from, (unsigned long)answer[JK_PLACE]);
     if (ferror(stdout) || fclose(stdout))
         return failed("standard output");
     return number == JK_ACCEPTED ? READ : REFUSED;

@@ -4,7 +4,8 @@
  * Every call but jk_start returns its number: JK_ACCEPTED, which is 0, or that of its refusal. Where several refusals
  * apply, it is the first in the call's list below. An answer has JK_ANSWER places: the number, the values, then zeros.
  * A refused call gives zeros in every other place of its answer and changes nothing else: no octet of an output, and no
- * octet of a state. In an accepted call the octets of an output past those needed keep what they held.
+ * octet of a state. There is one exception: JK_BASIC_ONLY has a value, JK_PLACE, and zeros behind it. In an accepted
+ * call the octets of an output past those needed keep what they held.
  *
  * All this is proved of the library's source. It rests on what no proof of it can see, and you must keep:
  *   - every pointer is valid for its length, and none is NULL, even where its length is 0;
@@ -15,7 +16,9 @@
  * From one version to the next no number and no place of an answer changes its meaning, but for what is put right and
  * named here:
  *   - since 0.4.0 JK_FAREND counts every E bit that is 0 in the multiframes used; before, it left out multiframes whose
- *     second block was not compared or did not agree.
+ *     second block was not compared or did not agree;
+ *   - since 0.5.0 number 3 is split: where no place stands it is JK_BASIC_ONLY, 15, with the first place that has room
+ *     and basic alignment, and JK_NO_PLACE, 3, only where none has; before, it was 3 in either case.
  * New numbers and places are only ever added at the end: numbers after the last, places after a call's last value,
  * where today it gives zeros.
  */
@@ -26,9 +29,9 @@
 #include <stdint.h>
 
 #define JK_VERSION_MAJOR 0
-#define JK_VERSION_MINOR 4
+#define JK_VERSION_MINOR 5
 #define JK_VERSION_PATCH 0
-#define JK_VERSION "0.4.0"
+#define JK_VERSION "0.5.0"
 
 #define JK_ANSWER 16 /* places of an answer */
 #define JK_STATE 99  /* octets of a state */
@@ -38,7 +41,7 @@ enum jk_number {
     JK_ACCEPTED = 0,
     JK_SHORT_IMAGE = 1,     /* the image is under 2,048 octets */
     JK_LONG_IMAGE = 2,      /* the image is over 8,192 octets */
-    JK_NO_PLACE = 3,        /* no place of the image stands */
+    JK_NO_PLACE = 3,        /* no place with room, 16,384 bits to the end of the image, has basic alignment */
     JK_SHORT_OUTPUT = 4,    /* an output is shorter than the call needs */
     JK_BAD_PAYLOAD = 5,     /* the payload isn't 496n octets, n from 1 to 16 */
     JK_BAD_OVERHEAD = 6,    /* the overhead isn't 8n octets, or one has a bit that must be 0 */
@@ -49,7 +52,8 @@ enum jk_number {
     JK_KEY_OFF = 11,        /* kind 1, 2 or 4 with the flag off */
     JK_NOTHING_STAGED = 12, /* kind 2 or 4 with nothing staged */
     JK_BAD_POSITION = 13,   /* the key's position isn't 0 or 1 */
-    JK_LATE_PLACE = 14      /* fewer than 16,384 bits from the place to the end of the image */
+    JK_LATE_PLACE = 14,     /* fewer than 16,384 bits from the place to the end of the image */
+    JK_BASIC_ONLY = 15      /* a place with room has basic alignment, but none stands; JK_PLACE is the first */
 };
 
 /* The places of an answer; the number is in place 0 of each. */
@@ -57,7 +61,7 @@ enum jk_place {
     JK_NUMBER = 0,
 
     /* jk_read */
-    JK_PLACE = 1,     /* the bit at which alignment stands */
+    JK_PLACE = 1,     /* the bit at which alignment stands; with JK_BASIC_ONLY the first place with basic alignment */
     JK_START = 2,     /* the bit at which the first multiframe starts */
     JK_WHOLE = 3,     /* whole multiframes from there to the end of the image */
     JK_USED = 4,      /* those before the one in which alignment is lost */
@@ -104,8 +108,8 @@ extern "C" {
 /*
  * Reads an image, whose bit 0 is the most significant bit of its first octet, from the first place that stands.
  * payload takes slots 1 to 31, 496 octets a multiframe used, and slot0 takes 16 a multiframe: 7,936 and 256 always do.
- * answer: JK_PLACE to JK_WORDBITS
- * Refused: 1 JK_SHORT_IMAGE, 2 JK_LONG_IMAGE, 3 JK_NO_PLACE, 4 JK_SHORT_OUTPUT
+ * answer: JK_PLACE to JK_WORDBITS; with 15 JK_PLACE alone
+ * Refused: 1 JK_SHORT_IMAGE, 2 JK_LONG_IMAGE, 3 JK_NO_PLACE, 15 JK_BASIC_ONLY, 4 JK_SHORT_OUTPUT
  */
 uint64_t jk_read(const uint8_t *image, size_t image_octets,
                  uint8_t *payload, size_t payload_octets,

@@ -54,6 +54,41 @@ static void writing(void)
     EXPECT(untouched(image + N * 512, sizeof image - N * 512));
 }
 
+/* The first marks of these multiframes' signals turned over. */
+static void hit_signals(uint8_t *line, int first, int end)
+{
+    for (; first < end; first++)
+        line[(16 * first + 1) * 32] ^= 0x80;
+}
+
+/* A word, a bit 2 of 1 and a word, from this octet on. */
+static void set_basic(uint8_t *line)
+{
+    line[0] = line[64] = 0x1B;
+    line[32] = 0x40;
+}
+
+/* Lines with no place that stands. No room is lent, and that goes unsaid. */
+static void unread(void)
+{
+    static uint8_t line[2304];
+
+    memcpy(line + 1, image, N * 512);
+    REFUSED(jk_read(line, 2048, back, 0, slot0, 0, answer), JK_NO_PLACE);
+    hit_signals(line + 1, 0, N);
+    ANSWERED(jk_read(line, 2049, back, 0, slot0, 0, answer), JK_BASIC_ONLY, 8);
+    EXPECT(jk_why(line, 2049, answer[JK_PLACE], answer) == JK_ACCEPTED && answer[JK_CONDITION] == JK_NO_PAIR);
+    REFUSED(jk_read(line, 2047, back, 0, slot0, 0, answer), JK_SHORT_IMAGE);
+
+    /* the last place with room, which an octet less takes away, and the first of two */
+    memset(line, 0, sizeof line);
+    set_basic(line + 256);
+    ANSWERED(jk_read(line, 2304, back, 0, slot0, 0, answer), JK_BASIC_ONLY, 8 * 256);
+    REFUSED(jk_read(line, 2303, back, 0, slot0, 0, answer), JK_NO_PLACE);
+    set_basic(line);
+    ANSWERED(jk_read(line, 2304, back, 0, slot0, 0, answer), JK_BASIC_ONLY, 0);
+}
+
 /* Whether the image is read, with this answer to the last of its places. */
 static int reads(const uint64_t expected[JK_ANSWER])
 {
@@ -77,6 +112,7 @@ static void reading(void)
     REFUSED(jk_read(image, 8193, back, sizeof back, slot0, sizeof slot0, answer), JK_LONG_IMAGE);
     REFUSED(jk_read(zeros, 2048, back, sizeof back, slot0, sizeof slot0, answer), JK_NO_PLACE);
     REFUSED(jk_read(image, 2048, back, sizeof back, slot0, sizeof slot0 - 1, answer), JK_SHORT_OUTPUT);
+    unread();
     EXPECT(untouched(back, sizeof back) && untouched(slot0, sizeof slot0));
 
     EXPECT(reads(clean) && !memcmp(back, payload, sizeof payload));
@@ -112,7 +148,6 @@ static int said(size_t octets, uint64_t place, enum jk_condition condition, uint
 static void asking(void)
 {
     static const uint64_t most = (uint64_t)-1;
-    int m;
 
     REFUSED(jk_why(image, 2047, most, answer), JK_SHORT_IMAGE);
     REFUSED(jk_why(image, 8193, most, answer), JK_LONG_IMAGE);
@@ -137,8 +172,7 @@ static void asking(void)
     EXPECT(said(2048, 0, JK_STANDS, 0, 0));
 
     /* every signal but the first wrong */
-    for (m = 1; m < N; m++)
-        image[(16 * m + 1) * 32] ^= 0x80;
+    hit_signals(image, 1, N);
     EXPECT(said(2048, 0, JK_NO_PAIR, 0, 0));
 }
 

@@ -2,7 +2,7 @@
 //! prints its report. It ends with status 0; with 1 where the line is refused;
 //! with 2 where the line could not be read or the report not be written.
 
-use jikhvanto::Reading;
+use jikhvanto::{Reading, Refusal};
 use std::env;
 use std::fs::File;
 use std::io::{self, Read, Write};
@@ -27,7 +27,12 @@ fn run() -> Result<ExitCode, String> {
     };
     let (text, status) = match jikhvanto::read(&line, &mut [0; 7_936], &mut [0; 256]) {
         Ok(reading) => (report(&reading), ExitCode::SUCCESS),
-        Err(refusal) => (format!("refused {}\n", refusal.number()), ExitCode::from(1)),
+        Err(refusal) => {
+            if let Refusal::BasicOnly { place } = refusal {
+                eprintln!("basic alignment and no more, first at place {place}");
+            }
+            (format!("refused {}\n", refusal.number()), ExitCode::from(1))
+        }
     };
     let mut out = io::stdout();
     out.write_all(text.as_bytes())

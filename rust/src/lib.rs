@@ -50,12 +50,13 @@ pub struct Reading {
 /// # Errors
 ///
 /// In this order [`ShortImage`](Refusal::ShortImage),
-/// [`LongImage`](Refusal::LongImage), [`NoPlace`](Refusal::NoPlace) and
+/// [`LongImage`](Refusal::LongImage), [`NoPlace`](Refusal::NoPlace),
+/// [`BasicOnly`](Refusal::BasicOnly) and
 /// [`ShortOutput`](Refusal::ShortOutput). Nothing is written then.
 pub fn read(image: &[u8], payload: &mut [u8], slot0: &mut [u8]) -> Result<Reading, Refusal> {
     let mut answer = [0; ANSWER];
     // SAFETY: every pointer comes with the length of its own slice.
-    accepted(unsafe {
+    unsafe {
         sys::jk_read(
             image.as_ptr(),
             image.len(),
@@ -65,7 +66,8 @@ pub fn read(image: &[u8], payload: &mut [u8], slot0: &mut [u8]) -> Result<Readin
             slot0.len(),
             &mut answer,
         )
-    })?;
+    };
+    accepted(&answer)?;
     let [_, place, start, whole, used, lost, words, compared, errored, farend, wordbits, ..] =
         answer.map(|value| value as usize);
     Ok(Reading {
@@ -99,7 +101,7 @@ pub fn read(image: &[u8], payload: &mut [u8], slot0: &mut [u8]) -> Result<Readin
 pub fn write(payload: &[u8], overhead: &[u8], check: u64, out: &mut [u8]) -> Result<u64, Refusal> {
     let mut answer = [0; ANSWER];
     // SAFETY: every pointer comes with the length of its own slice.
-    accepted(unsafe {
+    unsafe {
         sys::jk_write(
             payload.as_ptr(),
             payload.len(),
@@ -110,6 +112,7 @@ pub fn write(payload: &[u8], overhead: &[u8], check: u64, out: &mut [u8]) -> Res
             out.len(),
             &mut answer,
         )
-    })?;
+    };
+    accepted(&answer)?;
     Ok(answer[1])
 }

@@ -1,3 +1,4 @@
+use crate::sys::ANSWER;
 use std::error::Error;
 use std::fmt;
 
@@ -6,96 +7,133 @@ use std::fmt;
 #[non_exhaustive]
 pub enum Refusal {
     /// The image is under 2,048 octets.
-    ShortImage = 1,
+    ShortImage,
     /// The image is over 8,192 octets.
-    LongImage = 2,
-    /// No place of the image stands.
-    NoPlace = 3,
+    LongImage,
+    /// No place with room, 16,384 bits to the end of the image, has basic
+    /// alignment: no frames are found.
+    NoPlace,
     /// An output is shorter than the call needs.
-    ShortOutput = 4,
+    ShortOutput,
     /// The payload isn't 496n octets, n from 1 to 16.
-    BadPayload = 5,
+    BadPayload,
     /// The overhead isn't 8n octets, or one has a bit that must be 0.
-    BadOverhead = 6,
+    BadOverhead,
     /// The carried check is over 15.
-    BadCheck = 7,
+    BadCheck,
     /// The record isn't 4 octets.
-    BadRecord = 8,
+    BadRecord,
     /// The kind isn't 1 to 4.
-    BadKind = 9,
+    BadKind,
     /// The output slot isn't 1 to 31, or the input slot is over 31.
-    BadSlot = 10,
+    BadSlot,
     /// The key is off, and the record is not one that reads.
-    KeyOff = 11,
+    KeyOff,
     /// Nothing is staged, so there is nothing to commit or drop.
-    NothingStaged = 12,
+    NothingStaged,
     /// The key's position isn't 0 or 1.
-    BadPosition = 13,
+    BadPosition,
     /// Fewer than 16,384 bits from the place to the end of the image.
-    LatePlace = 14,
+    LatePlace,
+    /// A place with room has basic alignment, but none stands: no such place
+    /// has a pair of multiframe signals. No other refusal has a value.
+    BasicOnly {
+        /// The first place with room and basic alignment, of which
+        /// [`why`](crate::why()) says [`NoPair`](crate::Why::NoPair).
+        place: usize,
+    },
 }
 
 use Refusal::*;
 
-/// In the order of their numbers, in words.
-const ALL: [(Refusal, &str); 14] = [
-    (ShortImage, "the image is under 2,048 octets"),
-    (LongImage, "the image is over 8,192 octets"),
-    (NoPlace, "no place of the image stands"),
-    (ShortOutput, "an output is shorter than the call needs"),
-    (BadPayload, "the payload isn't 496n octets, n from 1 to 16"),
-    (
-        BadOverhead,
-        "the overhead isn't 8n octets, or one has a bit that must be 0",
-    ),
-    (BadCheck, "the carried check is over 15"),
-    (BadRecord, "the record isn't 4 octets"),
-    (BadKind, "the kind isn't 1 to 4"),
-    (
-        BadSlot,
-        "the output slot isn't 1 to 31, or the input slot is over 31",
-    ),
-    (
-        KeyOff,
-        "the key is off, and the record is not one that reads",
-    ),
-    (
-        NothingStaged,
-        "nothing is staged, so there is nothing to commit or drop",
-    ),
-    (BadPosition, "the key's position isn't 0 or 1"),
-    (
-        LatePlace,
-        "fewer than 16,384 bits from the place to the end of the image",
-    ),
-];
-
 impl Refusal {
     /// The number that the library answers for it.
     pub fn number(self) -> u64 {
-        self as u64
+        match self {
+            ShortImage => 1,
+            LongImage => 2,
+            NoPlace => 3,
+            ShortOutput => 4,
+            BadPayload => 5,
+            BadOverhead => 6,
+            BadCheck => 7,
+            BadRecord => 8,
+            BadKind => 9,
+            BadSlot => 10,
+            KeyOff => 11,
+            NothingStaged => 12,
+            BadPosition => 13,
+            LatePlace => 14,
+            BasicOnly { .. } => 15,
+        }
     }
 
-    /// The refusal that has this number; 0 is that of no refusal.
-    pub fn from_number(number: u64) -> Option<Refusal> {
-        let with_number = |(refusal, _): &&(Refusal, _)| refusal.number() == number;
-        ALL.iter().find(with_number).map(|(refusal, _)| *refusal)
+    /// The refusal that an answer of the library says, by its number in place
+    /// 0 and, with number 15, the value behind it; none where the call is
+    /// accepted.
+    ///
+    /// # Panics
+    ///
+    /// Where the number is none that the C header names.
+    pub fn from_answer(answer: &[u64; ANSWER]) -> Option<Refusal> {
+        Some(match answer[0] {
+            0 => return None,
+            1 => ShortImage,
+            2 => LongImage,
+            3 => NoPlace,
+            4 => ShortOutput,
+            5 => BadPayload,
+            6 => BadOverhead,
+            7 => BadCheck,
+            8 => BadRecord,
+            9 => BadKind,
+            10 => BadSlot,
+            11 => KeyOff,
+            12 => NothingStaged,
+            13 => BadPosition,
+            14 => LatePlace,
+            15 => BasicOnly {
+                place: answer[1] as usize,
+            },
+            number => panic!("a number that the header does not name: {number}"),
+        })
     }
 }
 
 impl fmt::Display for Refusal {
     fn fmt(&self, f: &mut fmt::Formatter) -> fmt::Result {
-        let (_, words) = ALL[*self as usize - 1];
-        f.write_str(words)
+        f.write_str(match self {
+            ShortImage => "the image is under 2,048 octets",
+            LongImage => "the image is over 8,192 octets",
+            NoPlace => "no place with room has basic alignment",
+            ShortOutput => "an output is shorter than the call needs",
+            BadPayload => "the payload isn't 496n octets, n from 1 to 16",
+            BadOverhead => "the overhead isn't 8n octets, or one has a bit that must be 0",
+            BadCheck => "the carried check is over 15",
+            BadRecord => "the record isn't 4 octets",
+            BadKind => "the kind isn't 1 to 4",
+            BadSlot => "the output slot isn't 1 to 31, or the input slot is over 31",
+            KeyOff => "the key is off, and the record is not one that reads",
+            NothingStaged => "nothing is staged, so there is nothing to commit or drop",
+            BadPosition => "the key's position isn't 0 or 1",
+            LatePlace => "fewer than 16,384 bits from the place to the end of the image",
+            BasicOnly { place } => {
+                return write!(f, "place {place} has basic alignment, but no place stands");
+            }
+        })
     }
 }
 
 impl Error for Refusal {}
 
-/// Nothing for number 0, else the refusal.
-pub(crate) fn accepted(number: u64) -> Result<(), Refusal> {
-    match number {
-        0 => Ok(()),
-        _ => Err(Refusal::from_number(number).expect("a number that the header names")),
-    }
+/// Nothing where the call is accepted, else the refusal.
+pub(crate) fn accepted(answer: &[u64; ANSWER]) -> Result<(), Refusal> {
+    Refusal::from_answer(answer).map_or(Ok(()), Err)
+}
+
+/// The same of a call that answers its number and nothing else.
+pub(crate) fn accepted_number(number: u64) -> Result<(), Refusal> {
+    let mut answer = [0; ANSWER];
+    answer[0] = number;
+    accepted(&answer)
 }

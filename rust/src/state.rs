@@ -1,4 +1,4 @@
-use crate::refusal::{accepted, Refusal};
+use crate::refusal::{accepted, accepted_number, Refusal};
 use crate::sys::{self, ANSWER, STATE};
 
 /// The kinds of a host's record.
@@ -41,7 +41,8 @@ impl State {
     pub fn host(&mut self, record: &[u8]) -> Result<u8, Refusal> {
         let mut answer = [0; ANSWER];
         // SAFETY: the octets are lent whole, the record with its length.
-        accepted(unsafe { sys::jk_host(&mut self.0, record.as_ptr(), record.len(), &mut answer) })?;
+        unsafe { sys::jk_host(&mut self.0, record.as_ptr(), record.len(), &mut answer) };
+        accepted(&answer)?;
         Ok(answer[1] as u8)
     }
 
@@ -53,7 +54,7 @@ impl State {
     /// [`BadPosition`](Refusal::BadPosition) for any other position.
     pub fn key(&mut self, position: u64) -> Result<(), Refusal> {
         // SAFETY: the octets are lent whole.
-        accepted(unsafe { sys::jk_key(&mut self.0, position) })
+        accepted_number(unsafe { sys::jk_key(&mut self.0, position) })
     }
 
     /// A multiframe boundary: a waiting map is live from here on.
@@ -74,7 +75,7 @@ impl State {
     pub fn map(&self, payload: &[u8], out: &mut [u8]) -> Result<(), Refusal> {
         // SAFETY: the octets are lent whole, every pointer comes with the
         // length of its own slice.
-        accepted(unsafe {
+        accepted_number(unsafe {
             sys::jk_map(
                 &self.0,
                 payload.as_ptr(),

@@ -38,7 +38,8 @@ pub enum Why {
 pub fn why(image: &[u8], place: u64) -> Result<Why, Refusal> {
     let mut answer = [0; ANSWER];
     // SAFETY: the pointer comes with the length of its own slice.
-    accepted(unsafe { sys::jk_why(image.as_ptr(), image.len(), place, &mut answer) })?;
+    unsafe { sys::jk_why(image.as_ptr(), image.len(), place, &mut answer) };
+    accepted(&answer)?;
     let [_, condition, k, bit, ..] = answer.map(|value| value as usize);
     Ok(match condition {
         0 => Why::Stands { k },

@@ -145,6 +145,35 @@ fn reads_are_refused() {
     assert_eq!(refused(&line, 7_935, 256), Refusal::ShortOutput);
     assert_eq!(refused(&line, 7_936, 255), Refusal::ShortOutput);
     assert_eq!(refused(&[], 0, 0), Refusal::ShortImage);
+    assert_eq!(refused(&[0; 2_048], 0, 0), Refusal::NoPlace);
+}
+
+#[test]
+fn basic_alignment_is_refused_with_its_place() {
+    let refused = |image: &[u8]| read(image, &mut [], &mut []).unwrap_err();
+    // Three octets in front of a line whose signals are all hit.
+    let mut line = [&[0; 3], line(4).as_slice()].concat();
+    assert_eq!(refused(&line), Refusal::ShortOutput);
+    for m in 0..4 {
+        line[3 + (16 * m + 1) * 32] ^= 0x80;
+    }
+    assert_eq!(refused(&line), Refusal::BasicOnly { place: 24 });
+    assert_eq!(why(&line, 24), Ok(Why::NoPair));
+    let said = refused(&line).to_string();
+    assert_eq!(said, "place 24 has basic alignment, but no place stands");
+    // An octet less, and the place has no room.
+    assert_eq!(refused(&line[..2_050]), Refusal::NoPlace);
+    assert_eq!(why(&line[..2_050], 24), Err(Refusal::LatePlace));
+
+    // A word, a bit 2 of 1 and a word at two places: the first.
+    let mut octets = [0; 8_192];
+    for place in [6_144, 200] {
+        octets[place] = 0x1B;
+        octets[place + 32] = 0x40;
+        octets[place + 64] = 0x1B;
+        let place = 8 * place;
+        assert_eq!(refused(&octets), Refusal::BasicOnly { place });
+    }
 }
 
 #[test]

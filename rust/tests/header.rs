@@ -1,6 +1,7 @@
 //! The names, the numbers and the version are those of the C header.
 
 use jikhvanto::{kind, sys, Refusal, Why};
+use std::fmt::Debug;
 
 const HEADER: &str = include_str!("../../include/jikhvanto.h");
 
@@ -34,19 +35,40 @@ fn shouted(name: &str) -> String {
     shouted
 }
 
+/// `FirstWord` of `FirstWord { bit: 0 }`, as the header writes it.
+fn name(of: impl Debug) -> String {
+    let text = format!("{of:?}");
+    shouted(text.split(' ').next().unwrap())
+}
+
+/// The refusal with this number, and 7 in the place behind it.
+fn refusal(number: u64) -> Option<Refusal> {
+    let mut answer = [0; sys::ANSWER];
+    answer[..2].copy_from_slice(&[number, 7]);
+    Refusal::from_answer(&answer)
+}
+
 #[test]
 fn refusals() {
     let named = named("jk_number");
     assert_eq!(named[0], ("ACCEPTED", 0));
-    assert_eq!(Refusal::from_number(0), None);
-    for (name, number) in &named[1..] {
-        let refusal = Refusal::from_number(*number).unwrap();
-        assert_eq!(shouted(&format!("{refusal:?}")), *name);
+    assert_eq!(refusal(0), None);
+    for (written, number) in &named[1..] {
+        let refusal = refusal(*number).unwrap();
+        assert_eq!(name(refusal), *written);
         assert_eq!(refusal.number(), *number);
         assert!(!refusal.to_string().is_empty());
     }
-    assert_eq!(named.len(), 15);
-    assert_eq!(Refusal::from_number(15), None);
+    assert_eq!(named.len(), 16);
+    let basic = refusal(15).unwrap();
+    assert_eq!(basic, Refusal::BasicOnly { place: 7 });
+    assert!(basic.to_string().contains("place 7 "));
+}
+
+#[test]
+#[should_panic(expected = "does not name: 16")]
+fn no_refusal() {
+    refusal(16);
 }
 
 #[test]
@@ -61,9 +83,7 @@ fn conditions() {
     let named = named("jk_condition");
     assert_eq!(named.len(), conditions.len());
     for (i, why) in conditions.iter().enumerate() {
-        let text = format!("{why:?}");
-        let name = text.split(' ').next().unwrap();
-        assert_eq!((shouted(name).as_str(), i as u64), named[i]);
+        assert_eq!((name(why).as_str(), i as u64), named[i]);
     }
 }
 
