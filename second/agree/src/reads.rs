@@ -12,7 +12,7 @@ type Read = fn(&[u8], &mut [u8], &mut [u8]) -> Reading;
 /// Holds the reads of a form to the oracle's.
 pub fn reads(form: &str, other: Read) {
     let seed = seed(&format!("{LINES} lines read, {form}"));
-    let (mut numbers, mut starts) = ([0; 5], [0; 8]);
+    let (mut numbers, mut starts, mut basics) = ([0; 16], [0; 8], [0; 8]);
     let (mut several, mut hit, mut far) = (0, [0; 8], 0);
     for item in 0..LINES {
         let r = &mut Random::new(seed, item);
@@ -23,7 +23,11 @@ pub fn reads(form: &str, other: Read) {
         };
         let (reading, slot0) = both(r, &image, other);
         numbers[reading.number as usize] += 1;
-        starts[reading.start as usize % 8] += 1;
+        match reading.number {
+            0 => starts[reading.start as usize % 8] += 1,
+            15 => basics[reading.place as usize % 8] += 1,
+            _ => {}
+        }
         several += u64::from(reading.wordbits > reading.words);
         for slot in slot0.iter().step_by(2) {
             hit[wrong_bits(&bits(&[*slot]), 0) as usize] += 1;
@@ -32,9 +36,12 @@ pub fn reads(form: &str, other: Read) {
         far += u64::from(last.map_or(false, |m| m[13] < 128 || m[15] < 128));
     }
     // Every answer, and every bit of an octet, has had its share of the lines.
-    assert!(numbers.iter().all(|&count| count >= 500), "{numbers:?}");
+    for number in [0, 1, 2, 3, 4, 15] {
+        assert!(numbers[number] >= 500, "{numbers:?}");
+    }
     assert!(numbers[0] >= LINES / 3, "{numbers:?}");
     assert!(starts.iter().all(|&count| count >= 500), "{starts:?}");
+    assert!(basics.iter().all(|&count| count >= 50), "{basics:?}");
     // Words with any number of wrong bits have been read, several in a word often.
     assert!(several >= numbers[0] / 8, "{several} of {numbers:?}");
     assert!(hit.iter().all(|&count| count >= 500), "{hit:?}");

@@ -1,11 +1,11 @@
 //! The oracle held to the bench cases of the paper, by their numbers, and to
-//! what the paper promises of `wordbits` and of `why`.
+//! what the paper promises of `wordbits`, of `why` and of numbers 3 and 15.
 
 use agree::seed;
-use given::making::{flip, shifted, wrong_signals, wrong_words};
+use given::making::{flip, set_basic, shifted, wrong_signals, wrong_words};
 use given::Random;
 use oracle::check::check;
-use oracle::line::{bits, number, wrong_bits, BLOCK, FRAME, SIGNAL, WORD};
+use oracle::line::{bits, number, octets, wrong_bits, BLOCK, FRAME, SIGNAL, WORD};
 use oracle::why::with_room;
 use oracle::writing::odd_slot0;
 use oracle::{read, report, said, why, write, Answer, Exchange, Reading, Why};
@@ -47,6 +47,14 @@ fn refusal(number: u64) -> Reading {
     Reading {
         number,
         ..Reading::default()
+    }
+}
+
+/// The refusal of an image whose first place with basic alignment is this.
+fn basic_only(place: usize) -> Reading {
+    Reading {
+        place: place as u64,
+        ..refusal(15)
     }
 }
 
@@ -224,6 +232,22 @@ fn case_15_far_end_errors() {
 }
 
 #[test]
+fn case_16_basic_alignment_only() {
+    let mut image = line(4);
+    wrong_signals(&mut image, &[0, 1, 2, 3]);
+    assert_eq!(read_all(&image), basic_only(0));
+    assert_eq!(report(&image), "refused 15\n");
+    assert_eq!(read_all(&shifted(&image, 8)), basic_only(8));
+    let set = |place| {
+        let mut image = [0; 8 * 2_048];
+        set_basic(&mut image, place);
+        octets(&image)
+    };
+    assert_eq!(read_all(&set(0)), basic_only(0));
+    assert_eq!(read_all(&set(1)), refusal(3));
+}
+
+#[test]
 fn wrong_bits_of_every_slot() {
     for slot in 0..=255_u8 {
         let ones = ((slot ^ 0b001_1011) & 0b111_1111).count_ones();
@@ -277,11 +301,13 @@ fn refused(number: u64) -> Why {
 }
 
 /// The place that is read from is the first of which `why` says that it stands,
-/// and there is none where there is no reading.
+/// and there is none where there is no reading. The place that goes with 15 is
+/// then the first of which it says that there is no pair, and with 3 there is
+/// none of these either.
 #[test]
 fn why_and_read() {
     let seed = seed(&format!("{IMAGES} images, every place asked about"));
-    let (mut none, mut late) = (0, 0);
+    let (mut none, mut basic, mut late) = (0, 0, 0);
     for item in 0..IMAGES {
         let image = given::image(&mut Random::new(seed, item));
         let reading = read_all(&image);
@@ -290,22 +316,71 @@ fn why_and_read() {
             continue;
         }
         let bits = bits(&image);
-        let stands = |p: &usize| with_room(&bits, *p).condition == 0;
-        match (0..=bits.len() - 16_384).find(stands) {
-            Some(p) => {
-                let said = why(&image, p as u64);
-                assert_eq!(said, with_room(&bits, p), "image {item}");
-                assert_eq!((reading.number, reading.place), (0, p as u64));
-                assert_eq!(reading.start, reading.place + 512 * said.k);
-                late += u64::from(p > 64);
-            }
-            None => {
-                assert_eq!(reading, refusal(3), "image {item}");
-                none += 1;
-            }
+        let first = |condition| {
+            let said = |p: &usize| with_room(&bits, *p).condition == condition;
+            (0..=bits.len() - 16_384).find(said)
+        };
+        if let Some(p) = first(0) {
+            let said = why(&image, p as u64);
+            assert_eq!(said, with_room(&bits, p), "image {item}");
+            assert_eq!((reading.number, reading.place), (0, p as u64));
+            assert_eq!(reading.start, reading.place + 512 * said.k);
+            late += u64::from(p > 64);
+        } else if let Some(p) = first(4) {
+            assert_eq!(reading, basic_only(p), "image {item}");
+            basic += 1;
+        } else {
+            assert_eq!(reading, refusal(3), "image {item}");
+            none += 1;
         }
     }
-    assert!(none >= IMAGES / 20 && late >= IMAGES / 20, "{none}, {late}");
+    let counts = [none, basic, late];
+    assert!(counts.iter().all(|&n| n >= IMAGES / 20), "{counts:?}");
+}
+
+/// Of an image one of three holds, and it is what is answered: a place stands;
+/// none does, and one with room has basic alignment; none with room has.
+#[test]
+fn numbers_3_and_15_in_the_words_of_the_paper() {
+    let seed = seed(&format!("{IMAGES} images, numbers 3 and 15"));
+    let (mut three, mut others) = ([0; 3], [0; 4]);
+    for item in 0..IMAGES {
+        let image = given::image(&mut Random::new(seed, item));
+        if image.len() < 2_048 || image.len() > 8_192 {
+            continue;
+        }
+        let bits = bits(&image);
+        let aligned = |p: &usize| aligned(&bits, *p) == [true; 3];
+        let end = bits.len() - 16_383;
+        let basic: Vec<usize> = (0..end).filter(aligned).collect();
+        let stand = basic.iter().find(|p| least_k(&bits, **p).is_some());
+
+        let reading = read_all(&image);
+        let number = match (stand, basic.first()) {
+            (Some(p), _) => {
+                assert_eq!((reading.number, reading.place), (0, *p as u64));
+                others[0] += u64::from(basic[0] < *p);
+                0
+            }
+            (None, Some(p)) => {
+                assert_eq!(reading, basic_only(*p), "image {item}");
+                others[1] += u64::from(basic.len() > 1);
+                others[2] += u64::from(p + 1 == end);
+                1
+            }
+            (None, None) => {
+                assert_eq!(reading, refusal(3), "image {item}");
+                let without_room = (end..bits.len() - 520).any(|p| aligned(&p));
+                others[3] += u64::from(without_room);
+                2
+            }
+        };
+        three[number] += 1;
+    }
+    assert!(three.iter().all(|&n| n >= IMAGES / 20), "{three:?}");
+    // Each of these has had its share: basic alignment before the place that
+    // stands, at several places, at the last with room, at none but without.
+    assert!(others.iter().all(|&n| n >= IMAGES / 200), "{others:?}");
 }
 
 /// Of the five answers one holds, and it is the one that is given.
@@ -337,15 +412,24 @@ fn why_in_the_words_of_the_paper() {
     assert!(conditions.iter().all(|&n| n >= 200), "{conditions:?}");
 }
 
-/// What is said of the place p, held to its bits.
-fn holds(bits: &[u8], p: usize, said: &Why) {
-    assert!(bits.len() - p >= 16_384);
+/// The three parts of basic alignment at p, which hold and which do not.
+fn aligned(bits: &[u8], p: usize) -> [bool; 3] {
     let (first, second) = (&bits[p + 1..p + 8], &bits[p + 513..p + 520]);
-    let aligned = [first == WORD, bits[p + 257] == 1, second == WORD];
+    [first == WORD, bits[p + 257] == 1, second == WORD]
+}
+
+/// The least k of p, which has room.
+fn least_k(bits: &[u8], p: usize) -> Option<usize> {
     let marks: Vec<u8> = (0..32).map(|k| bits[p + 256 + 512 * k]).collect();
     let signal = |k: usize| marks.get(k..k + 6) == Some(&SIGNAL);
     let pair = |k: &usize| signal(*k) && [8, 16, 24].iter().any(|later| signal(k + later));
-    let k = (0..32).find(pair);
+    (0..32).find(pair)
+}
+
+/// What is said of the place p, held to its bits.
+fn holds(bits: &[u8], p: usize, said: &Why) {
+    assert!(bits.len() - p >= 16_384);
+    let (aligned, k) = (aligned(bits, p), least_k(bits, p));
 
     let five = [
         aligned == [true; 3] && k.is_some(),

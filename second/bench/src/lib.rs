@@ -120,15 +120,17 @@ fn rows() -> Vec<Row> {
     // One signal, and none behind it within the reach of place 0.
     let mut unpaired = aligned.clone();
     wrong_signals(&mut unpaired, &[1, 2, 3]);
+    // This noise has basic alignment somewhere, as most of its length has.
+    let noise = r.octets(8_192);
     let read = |image, number| Asked::Read { image, number };
     let why = |image, condition| Asked::Why { image, condition };
     vec![
         ("read-place-0", read(aligned.clone(), 0)),
         ("read-place-3", read(moved, 0)),
-        ("read-noise", read(r.octets(8_192), 3)),
+        ("read-noise", read(noise, 15)),
         ("read-0x1B", read(vec![0x1B; 8_192], 3)),
-        ("read-false-starts", read(false_starts, 3)),
-        ("read-densest", read(densest(8_192), 3)),
+        ("read-false-starts", read(false_starts, 15)),
+        ("read-densest", read(densest(8_192), 15)),
         (
             "write-16",
             Asked::Write {

@@ -3,7 +3,8 @@
 
 #![forbid(unsafe_code)]
 
-use given::making::{flip, shifted, wrong_signals, wrong_words};
+use given::making::{flip, set_basic, shifted, wrong_signals, wrong_words};
+use oracle::line::octets;
 use oracle::{read, why, write, Exchange};
 use std::fmt::Write;
 
@@ -19,6 +20,7 @@ pub fn all() -> String {
     words(&mut text);
     blocks(&mut text);
     far_ends(&mut text);
+    basics(&mut text);
     outputs(&mut text);
     whys(&mut text);
     writes(&mut text);
@@ -219,6 +221,61 @@ fn far_ends(text: &mut String) {
     far("far none used", &[6, 7], &[4, 6, 8], &[]);
 }
 
+/// So many octets 0, with basic alignment set at these places.
+fn set(count: usize, places: &[usize]) -> Vec<u8> {
+    let mut bits = vec![0; 8 * count];
+    for place in places {
+        set_basic(&mut bits, *place);
+    }
+    octets(&bits)
+}
+
+fn basics(text: &mut String) {
+    let none = unsignalled(4, &[0, 1, 2, 3], 0);
+    read_case(text, "16 signals", &none);
+    read_case(text, "16 in front", &shifted(&none, 8));
+    read_case(text, "16 set at 0", &set(2_048, &[0]));
+    read_case(text, "16 set at 1", &set(2_048, &[1]));
+
+    for front in 0..8 {
+        let label = format!("basic shift {front}");
+        read_case(text, &label, &shifted(&none, front));
+    }
+    let all: Vec<usize> = (0..16).collect();
+    read_case(text, "basic line of 16", &unsignalled(16, &all, 0));
+    read_case(text, "basic cut", &unsignalled(5, &all[..5], 37));
+    read_case(text, "basic first signal", &unsignalled(8, &all[1..8], 0));
+    read_case(text, "basic in noise", &basic_in_noise());
+
+    let mut at = |label: &str, count: usize, places: &[usize]| {
+        read_case(text, label, &set(count, places));
+    };
+    at("basic last of 2049", 2_049, &[8]);
+    at("basic past 2049", 2_049, &[9]);
+    at("basic last of 8192", 8_192, &[49_152]);
+    at("basic past 8192", 8_192, &[49_153]);
+    at("basic far past 8192", 8_192, &[64_000]);
+    at("basic first of two", 2_304, &[1_000, 77]);
+    at("basic two in a row", 2_304, &[13, 3]);
+    at("basic first of three", 8_192, &[49_152, 30_003, 20_015]);
+    at("basic with room", 2_304, &[2_056, 2_040]);
+
+    read_case(text, "basic and stands", &unsignalled(8, &all[..4], 0));
+}
+
+/// Every word of the line is wrong, and slot 22 of frames 9 to 11 has basic
+/// alignment.
+fn basic_in_noise() -> Vec<u8> {
+    let mut payload = payload(496 * 5);
+    payload[300] = 0x1B;
+    payload[331] = 0x40;
+    payload[362] = 0x1B;
+    let mut image = line_of(&payload, &overhead(40));
+    let even: Vec<usize> = (0..80).step_by(2).collect();
+    wrong_words(&mut image, &even);
+    image
+}
+
 fn outputs(text: &mut String) {
     let image = line(4);
     read_into(text, "out exact", &image, 1_984, 64);
@@ -234,6 +291,12 @@ fn outputs(text: &mut String) {
     read_into(text, "order 1", &[], 0, 0);
     read_into(text, "order 2", &[0; 8_193], 0, 0);
     read_into(text, "order 3", &[0; 2_048], 0, 0);
+
+    let none = unsignalled(4, &[0, 1, 2, 3], 0);
+    read_into(text, "order 15", &none, 0, 0);
+    read_into(text, "order 1 of basic", &none[..2_047], 0, 0);
+    read_into(text, "order 2 of basic", &set(8_193, &[0]), 0, 0);
+    read_into(text, "order 3 of basic", &set(2_048, &[1]), 0, 0);
 }
 
 fn why_case(text: &mut String, label: &str, image: &[u8], place: u64) {

@@ -4,7 +4,7 @@
 use crate::image::{hit_words, image};
 use crate::Random;
 use oracle::line::{bits, octets, FRAME};
-use oracle::place::first;
+use oracle::place::{first, first_basic};
 
 /// An image, and places in it or past its end.
 pub struct Asked {
@@ -26,7 +26,7 @@ pub fn asked(r: &mut Random) -> Asked {
             }
             place
         }
-        None => r.below(line.len() + 1),
+        None => first_basic(&line).unwrap_or_else(|| r.below(line.len() + 1)),
     };
     Asked {
         places: places(r, line.len(), place),

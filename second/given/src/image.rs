@@ -1,7 +1,8 @@
 //! Images as they may come: lines written, damaged, moved and cut, false
-//! starts, and octets that are no line at all.
+//! starts, octets that are no line at all, and these with basic alignment set
+//! at a place or more.
 
-use crate::making::{densest, false_starts, whole_octets};
+use crate::making::{densest, false_starts, set_basic, whole_octets};
 use crate::Random;
 use oracle::line::{bits, octets, FRAME, MULTIFRAME};
 use oracle::write;
@@ -35,12 +36,39 @@ pub fn image(r: &mut Random) -> Vec<u8> {
                 _ => false_starts(length, &signals),
             }
         }
+        3 | 4 => {
+            let length = length(r);
+            let mut bits = match r.below(3) {
+                0 => bits(&r.octets(length)),
+                _ => vec![r.pick(&[0, 1]); 8 * length],
+            };
+            basics(r, &mut bits);
+            octets(&bits)
+        }
         _ => {
             let mut line = line(r);
             for _ in 0..r.pick(&[0, 1, 1, 2, 3]) {
                 damage(r, &mut line);
             }
             moved(r, line)
+        }
+    }
+}
+
+/// Sets basic alignment once or more: at the last place with room, at one
+/// without, near the front, at any with room.
+fn basics(r: &mut Random, bits: &mut [u8]) {
+    let last = bits.len().saturating_sub(16_384);
+    for _ in 0..r.pick(&[1, 1, 1, 2, 3]) {
+        let past = r.pick(&[8, 600, 15_000]);
+        let place = match r.below(6) {
+            0 | 1 => last,
+            2 | 3 => last + r.between(1, past),
+            4 => r.below(64),
+            _ => r.below(last + 1),
+        };
+        if place + 2 * FRAME + 8 <= bits.len() {
+            set_basic(bits, place);
         }
     }
 }
@@ -144,7 +172,7 @@ fn damage(r: &mut Random, line: &mut Vec<u8>) {
     let (frames, multiframes) = (length / FRAME, length / MULTIFRAME);
     let times = r.pick(&[1, 2, 3, 5, 10, 30]);
     let at = r.below(length);
-    match r.below(16) {
+    match r.below(17) {
         // Anywhere.
         0 => {
             for _ in 0..r.between(1, 300) {
@@ -206,6 +234,12 @@ fn damage(r: &mut Random, line: &mut Vec<u8>) {
             let firsts = (1..frames).step_by(2).map(|f| f * FRAME);
             hit(r, line, firsts, times);
         }
+        // A mark of every signal.
+        15 => {
+            for m in 0..multiframes {
+                line[(16 * m + r.pick(&[1, 3, 5, 7, 9, 11])) * FRAME] ^= 1;
+            }
+        }
         // A slip: bits left out, or sent twice.
         _ => {
             let end = length.min(at + r.between(1, 600));
@@ -245,6 +279,9 @@ fn moved(r: &mut Random, line: Vec<u8>) -> Vec<u8> {
     let behind = if r.once_in(4) { r.below(2_000) } else { 0 };
     let bit = r.pick(&[0, 1]);
     image.resize(image.len() + behind, bit);
+    if r.once_in(12) {
+        basics(r, &mut image);
+    }
     whole_octets(&mut image, bit);
     let mut image = octets(&image);
     match r.below(8) {

@@ -36,6 +36,13 @@ pub fn wrong_signals(line: &mut [u8], multiframes: &[usize]) {
     }
 }
 
+/// Gives a place of these bits basic alignment: a word, a bit 2 of 1, a word.
+pub fn set_basic(bits: &mut [u8], place: usize) {
+    bits[place + 1..place + 8].copy_from_slice(&WORD);
+    bits[place + FRAME + 1] = 1;
+    bits[place + 2 * FRAME + 1..place + 2 * FRAME + 8].copy_from_slice(&WORD);
+}
+
 /// Places with basic alignment and marks of any kind: even frames of nothing
 /// but words, a word begins at every seventh bit, and odd frames of ones. Bit
 /// 1 before each of those ones repeats `signals`, so it can hold signals with

@@ -1,7 +1,7 @@
 //! Reading from the start. Slot 0 is gathered first, as loss, words, checks
 //! and E bits are all in it; then payload and blocks go by once.
 
-use crate::place;
+use crate::place::{self, Found};
 use crate::window;
 use crate::Check;
 use oracle::Reading;
@@ -13,6 +13,14 @@ fn refused(number: u64) -> Reading {
     }
 }
 
+/// No place stands, and this is the first with basic alignment.
+fn basic_only(place: usize) -> Reading {
+    Reading {
+        place: place as u64,
+        ..refused(15)
+    }
+}
+
 /// As [`oracle::read`], by this check.
 pub fn read(image: &[u8], payload: &mut [u8], slot0: &mut [u8], check: Check) -> Reading {
     if image.len() < 2_048 {
@@ -21,9 +29,10 @@ pub fn read(image: &[u8], payload: &mut [u8], slot0: &mut [u8], check: Check) ->
     if image.len() > 8_192 {
         return refused(2);
     }
-    let (p, k) = match place::first(image) {
-        Some(found) => found,
-        None => return refused(3),
+    let (p, k) = match place::find(image) {
+        Found::At(place, k) => (place, k),
+        Found::BasicAt(place) => return basic_only(place),
+        Found::Nothing => return refused(3),
     };
     let start = p + 512 * k;
     let whole = (8 * image.len() - start) / 4_096;

@@ -4,7 +4,8 @@ use crate::check::{carried, check};
 use crate::line::{bits, octets, wrong_bits, BLOCK, FRAME, MULTIFRAME};
 use crate::place;
 
-/// What a read answers. Of a refusal all but the number is 0.
+/// What a read answers. Of a refusal all but the number is 0, and but the place
+/// that goes with number 15.
 #[derive(Clone, Copy, Debug, Default, PartialEq, Eq)]
 pub struct Reading {
     pub number: u64,
@@ -39,7 +40,7 @@ pub fn read(image: &[u8], payload: &mut [u8], slot0: &mut [u8]) -> Reading {
     let image = bits(image);
     let (p, k) = match place::first(&image) {
         Some(found) => found,
-        None => return refused(3),
+        None => return without_place(&image),
     };
     let start = p + 512 * k;
     let whole = (image.len() - start) / MULTIFRAME;
@@ -65,6 +66,17 @@ pub fn read(image: &[u8], payload: &mut [u8], slot0: &mut [u8]) -> Reading {
         errored: agreed.iter().filter(|&&agreed| !agreed).count() as u64,
         farend: far_end_errors(line),
         wordbits: words.iter().sum(),
+    }
+}
+
+/// The refusal of an image in which no place stands.
+fn without_place(bits: &[u8]) -> Reading {
+    match place::first_basic(bits) {
+        Some(p) => Reading {
+            place: p as u64,
+            ..refused(15)
+        },
+        None => refused(3),
     }
 }
 

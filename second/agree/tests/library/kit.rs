@@ -4,7 +4,7 @@
 //! every octet must be what the binding says.
 
 use jikhvanto::sys::{self, ANSWER};
-use jikhvanto::Why as Said;
+use jikhvanto::{Refusal, Why as Said};
 use oracle::{Reading, Why, Written};
 
 /// What a call leaves in the places of its answer.
@@ -52,6 +52,7 @@ pub fn read(image: &[u8], payload: &mut [u8], slot0: &mut [u8]) -> Reading {
         },
         Err(refusal) => Reading {
             number: refusal.number(),
+            place: place(refusal),
             ..Reading::default()
         },
     };
@@ -62,6 +63,14 @@ pub fn read(image: &[u8], payload: &mut [u8], slot0: &mut [u8]) -> Reading {
     assert_eq!(answer, places(values));
     assert!(c_payload == payload && c_slot0 == slot0, "outputs of {r:?}");
     r
+}
+
+/// The one value that a refusal may have.
+fn place(refusal: Refusal) -> u64 {
+    match refusal {
+        Refusal::BasicOnly { place } => place as u64,
+        _ => 0,
+    }
 }
 
 pub fn why(image: &[u8], place: u64) -> Why {
