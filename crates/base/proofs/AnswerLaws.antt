@@ -2,8 +2,9 @@
 use Prim.Native.Nat.{ℕ, zero, suc}
 use mathlib.Core.Path.{_≡_, refl, sym, ap, _∙_}
 use mathlib.Core.Bool.{Bool, true, false, not, cond, _&&_, _||_, true≢false, and-eq-true-iff}
-use mathlib.Core.List.{List, [], _∷_}
-use borrow.Author.Tests.{eq-eqb, eqb-true, not-true}
+use mathlib.Core.List.{List, [], _∷_, _++_}
+use mathlib.Mathlib.Data.Bool.Basic.{or-eq-false-eq-eq-false-and-eq-false}
+use borrow.Author.Tests.{eq-eqb, eqb-true, eqb-false, not-true}
 use lib.Dec.{eqb}
 use Rattle.base.specs.Choice.{if_then_else_}
 use Rattle.base.specs.Answer.{accepted, Refusal, firstOf, among}
@@ -62,6 +63,29 @@ first-listed (r ∷ rs) = go (r .applies) (first-listed rs)
         or-right (eqb (r .number) 0) (eqb (r .number) (r .number) || among (r .number) (numbers rs))
         (rw (same (r .number)))
     go false e = skip (eqb (firstOf rs) 0) (eqb (firstOf rs) (r .number)) (among (firstOf rs) (numbers rs)) e
+
+-- of two lists in a row the first comes first: its number, where that is not 0, else that of the second
+module _ (qs : List Refusal) where
+  first-joined : (rs : List Refusal) → among 0 (numbers rs) ≡ false
+      → firstOf (rs ++ qs) ≡ accepted (firstOf rs) (firstOf qs) (firstOf rs)
+  first-joined [] d = refl
+  first-joined (r ∷ rs) d =
+      let e = or-eq-false-eq-eq-false-and-eq-false (eqb 0 (r .number)) (among 0 (numbers rs)) .0 d in
+      go (r .applies) (λ z. eqb-false 0 (r .number) (e .0) (sym z)) (first-joined rs (e .1))
+    where
+      go : (t : Bool) → (r .number ≡ 0 → ⊥) → firstOf (rs ++ qs) ≡ accepted (firstOf rs) (firstOf qs) (firstOf rs)
+          → (if t then r .number else firstOf (rs ++ qs))
+          ≡ accepted (if t then r .number else firstOf rs) (firstOf qs) (if t then r .number else firstOf rs)
+      go true n later = sym (accepted-not (r .number) (firstOf qs) (r .number) n)
+      go false n later = later
+
+  module _ (rs : List Refusal) (d : among 0 (numbers rs) ≡ false) where
+    pub joined-first : (n : ℕ) → n ≡ firstOf rs → (n ≡ 0 → ⊥) → firstOf (rs ++ qs) ≡ n
+    joined-first n e h =
+        first-joined rs d ∙ accepted-not (firstOf rs) (firstOf qs) (firstOf rs) (λ z. h (e ∙ z)) ∙ sym e
+
+    pub joined-then : firstOf rs ≡ 0 → firstOf (rs ++ qs) ≡ firstOf qs
+    joined-then z = first-joined rs d ∙ accepted-so (firstOf rs) (firstOf qs) (firstOf rs) z
 
 -- it tells which
 pub first-tells : (rs : List Refusal) → distinct (0 ∷ numbers rs) ≡ true → Tells (firstOf rs) rs

@@ -2,7 +2,7 @@
 use Prim.Native.Nat.{ℕ, zero, suc, _+_, _*_, _≤_, _<_}
 use mathlib.Core.Path.{_≡_, refl, sym, ap, subst, _∙_}
 use mathlib.Core.Bool.{Bool, true, false, _||_, or-true, true≢false}
-use mathlib.Core.List.{List}
+use mathlib.Core.List.{List, [], _∷_}
 use mathlib.Core.Logic.{_⊎_, inl, inr, _↔_}
 use mathlib.Core.Option.{Option, none, some}
 use mathlib.Mathlib.Data.Bool.Basic.{or-eq-false-eq-eq-false-and-eq-false}
@@ -10,14 +10,15 @@ use native.Mathlib.Omega.{arith}
 use borrow.Author.Tests.{lt-ltb, le-ltb, ltb-true, ltb-false}
 use lib.Dec.{eqb, ltb}
 use lib.ListN.{length}
-use Rattle.base.proofs.AnswerLaws.{accepted-so, accepted-both, accepted-single, Tells, first-tells}
-use Rattle.base.specs.Answer.{accepted}
+use Rattle.base.proofs.AnswerLaws.{accepted-so, accepted-both, accepted-single, joined-first, joined-then, Tells, first-tells}
+use Rattle.base.specs.Answer.{accepted, Refusal, _when_, firstOf}
+use Rattle.base.specs.Choice.{if_then_else_}
 use Rattle.align.specs.Place.{found, foundIn, numberOf, placeOf, startOf, Standing, firstStanding, firstBasic}
 use Rattle.align.specs.Stands.{StandsFirst}
 use Rattle.align.specs.declared.Found.{Found}
 use Rattle.align.specs.declared.Found.the-variants.{At, BasicAt, Nothing}
 use Rattle.align.proofs.Laws.{first-stands, first-within}
-use Rattle.read.specs.Entry.{GoodLength, refuse, refusedPlace, reading, accept, refusals, refusal, placeIn, startIn}
+use Rattle.read.specs.Entry.{GoodLength, refuse, refusedPlace, reading, accept, unplaced, refusals, refusal, placeIn, startIn}
 use Rattle.read.specs.Entry.{wholeIn, usedIn, Read}
 use Rattle.read.proofs.Laws.{used-le, whole-fits}
 use Rattle.read.specs.declared.Reading.{Reading}
@@ -41,6 +42,33 @@ found-0 (some w) b e f = (w, refl)
 found-0 none (some p) e f = absurd (true≢false f)
 found-0 none none e f = absurd (true≢false e)
 
+-- past the tests of the length
+tested-good : (s : List ℕ) → ltb (length s) 2048 ≡ false → ltb 8192 (length s) ≡ false → GoodLength s
+tested-good s e f = record { long = ltb-false (length s) 2048 e; short = ltb-false 8192 (length s) f }
+
+pub placed-1 : (s : List ℕ) → length s < 2048 → firstOf (unplaced s) ≡ 1
+placed-1 s h = rw (lt-ltb (length s) 2048 h)
+
+pub placed-2 : (s : List ℕ) → 8192 < length s → firstOf (unplaced s) ≡ 2
+placed-2 s h = rw (le-ltb (length s) 2048 (omega arith), lt-ltb 8192 (length s) h)
+
+module _ (s : List ℕ) (good : GoodLength s) where
+  pub placed-0 : (w : Standing) → firstStanding s ≡ some w → firstOf (unplaced s) ≡ 0
+  placed-0 w e = rw (le-ltb (length s) 2048 (good .long), le-ltb 8192 (length s) (good .short), e) refl
+
+  pub placed-3 : foundIn s ≡ Nothing → firstOf (unplaced s) ≡ 3
+  placed-3 e = rw (le-ltb (length s) 2048 (good .long), le-ltb 8192 (length s) (good .short), e)
+
+  pub placed-15 : (p : ℕ) → foundIn s ≡ BasicAt p → firstOf (unplaced s) ≡ 15
+  placed-15 p e = rw (le-ltb (length s) 2048 (good .long), le-ltb 8192 (length s) (good .short), e)
+
+-- an image that is not refused by these has a good length, and a place stands in it
+pub placed : (s : List ℕ) → firstOf (unplaced s) ≡ 0 → GoodLength s × (w : Standing) × (firstStanding s ≡ some w)
+placed s e =
+    let t = rw e at (first-tells (unplaced s) refl) in
+    let w = found-0 (firstStanding s) (firstBasic s) (t .1 .1 .0) (t .1 .1 .1 .0) in
+    (tested-good s (t .0) (t .1 .0), w .0, w .1)
+
 module _ (s : List ℕ) (a b : ℕ) where
   -- an output is shorter than the call needs
   abbrev pub shortOutput : Bool
@@ -50,9 +78,17 @@ module _ (s : List ℕ) (a b : ℕ) where
   unfolding refusal
   tells = first-tells (refusals s a b) refl
 
-  -- past the tests of the length
-  tested-good : ltb (length s) 2048 ≡ false → ltb 8192 (length s) ≡ false → GoodLength s
-  tested-good e f = record { long = ltb-false (length s) 2048 e; short = ltb-false 8192 (length s) f }
+  -- the number: what the image is refused for comes first
+  abbrev last : List Refusal
+  last = 4 when shortOutput ∷ []
+
+  pub unplaced-first : (n : ℕ) → n ≡ firstOf (unplaced s) → (n ≡ 0 → ⊥) → refusal s a b ≡ n
+  unfolding refusal
+  unplaced-first n e h = joined-first last (unplaced s) refl n e h
+
+  pub placed-then : firstOf (unplaced s) ≡ 0 → (t : Bool) → shortOutput ≡ t → refusal s a b ≡ (if t then 4 else 0)
+  unfolding refusal
+  placed-then z t e = joined-then last (unplaced s) refl z ∙ ap (λ t. if t then 4 else 0) e
 
   pub number-1 : refusal s a b ≡ 1 ↔ length s < 2048
   unfolding refusal
@@ -69,13 +105,13 @@ module _ (s : List ℕ) (a b : ℕ) where
   pub told-3 : refusal s a b ≡ 3 → GoodLength s × (foundIn s ≡ Nothing)
   told-3 e =
       let t = rw e at tells in
-      (tested-good (t .0) (t .1 .0), numbered-3 (foundIn s) (t .1 .1))
+      (tested-good s (t .0) (t .1 .0), numbered-3 (foundIn s) (t .1 .1))
 
   pub told-15 : refusal s a b ≡ 15 → GoodLength s × (foundIn s ≡ BasicAt (placeIn s))
   unfolding placeIn
   told-15 e =
       let t = rw e at tells in
-      (tested-good (t .0) (t .1 .0), numbered-15 (foundIn s) (t .1 .1 .1))
+      (tested-good s (t .0) (t .1 .0), numbered-15 (foundIn s) (t .1 .1 .1))
 
   -- of an image of good length
   module _ (good : GoodLength s) where
@@ -138,7 +174,7 @@ ready s a b e =
     let q = start-is s (w .0) (w .1) in
     let r = first-within s (w .0 .place) (w .0 .k) (w .1) in
     record {
-      good = tested-good s a b (t .0) (t .1 .0);
+      good = tested-good s (t .0) (t .1 .0);
       k = w .0 .k;
       first = rw (← p) (first-stands s (w .0 .place) (w .0 .k) .0 (w .1));
       start = omega arith;

@@ -11,6 +11,7 @@ use Rattle.base.specs.Answer.{accepted, Refusal, _when_, firstOf}
 use Rattle.base.specs.Choice.{if_then_else_}
 use Rattle.read.specs.Reading.{whole, loss, lostAt, usedOf, payloadOf, slot0Of, wordErrors, wordBits, compared}
 use Rattle.read.specs.Reading.{errored, farEnd}
+use Rattle.read.specs.declared.Located.{Located}
 use Rattle.read.specs.declared.Reading.{Reading}
 
 -- 2,048 to 8,192 octets
@@ -34,15 +35,18 @@ lossIn s = loss s (startIn s) (wholeIn s)
 abbrev pub usedIn : List ℕ → ℕ
 usedIn s = usedOf (lossIn s) (wholeIn s)
 
--- a and b are how many octets the two outputs have
-abbrev pub refusals : List ℕ → ℕ → ℕ → List Refusal
-refusals s a b =
+-- what an image is refused for by every entry that reads it from the first place that stands
+abbrev pub unplaced : List ℕ → List Refusal
+unplaced s =
     1 when ltb (length s) 2048
     ∷ 2 when ltb 8192 (length s)
     ∷ 3 when eqb (numberOf (foundIn s)) 3
     ∷ 15 when eqb (numberOf (foundIn s)) 15
-    ∷ 4 when (ltb a (496 * usedIn s) || ltb b (16 * usedIn s))
     ∷ []
+
+-- a and b are how many octets the two outputs have
+abbrev pub refusals : List ℕ → ℕ → ℕ → List Refusal
+refusals s a b = unplaced s ++ 4 when (ltb a (496 * usedIn s) || ltb b (16 * usedIn s)) ∷ []
 
 unfoldable pub refusal : List ℕ → ℕ → ℕ → ℕ
 refusal s a b = firstOf (refusals s a b)
@@ -97,3 +101,26 @@ pub record Read (s payload slot0 : List ℕ) (r : Reading) (payload' slot0' : Li
       ≡ accepted (r .number) (payloadOf s (startIn s) (usedIn s) ++ drop (496 * usedIn s) payload) payload
   pub its-slot0 : slot0'
       ≡ accepted (r .number) (slot0Of s (startIn s) (usedIn s) ++ drop (16 * usedIn s) slot0) slot0
+
+-- Where an image is read from, and how far, as `locate` answers it: what every such entry begins with.
+
+abbrev pub found : List ℕ → Located
+found s =
+    record {
+      number = 0;
+      place = placeIn s;
+      start = startIn s;
+      whole = wholeIn s;
+      used = usedIn s;
+      lost = lostAt (lossIn s);
+      words = wordErrors s (startIn s) (usedIn s);
+      wordbits = wordBits s (startIn s) (usedIn s);
+    }
+
+abbrev pub nowhere : ℕ → ℕ → Located
+nowhere n p = record { number = n; place = p; start = 0; whole = 0; used = 0; lost = 0; words = 0; wordbits = 0 }
+
+unfoldable pub located : List ℕ → Located
+located s =
+    let n = firstOf (unplaced s) in
+    accepted n (found s) (nowhere n (refusedPlace s n))

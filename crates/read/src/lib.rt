@@ -9,7 +9,7 @@ ghost use Rattle.base.specs.Tab.{tab};
 ghost use Rattle.align.specs.Place.{firstStanding};
 ghost use Rattle.read.specs.Reading.{loss, lostAt, usedOf, slots, payloadOf, slot0Of, wordErrors, wordBits};
 ghost use Rattle.read.specs.Reading.{compared, errored, zerosE, farEnd};
-ghost use Rattle.read.specs.Entry.{Read, GoodLength, refuse};
+ghost use Rattle.read.specs.Entry.{Read, GoodLength, refuse, nowhere, located};
 
 // What is read: the number is 0, or the refusal's with zeros beside it; with 15 the place is that of `Found::BasicAt`.
 pub struct Reading {
@@ -23,6 +23,19 @@ pub struct Reading {
     pub compared: usize,
     pub errored: usize,
     pub farend: usize,
+    pub wordbits: usize,
+}
+
+// Where an image is read from, and how far: the number is 0, or the refusal's with zeros beside it; with 15 the place is
+// that of `Found::BasicAt`.
+pub struct Located {
+    pub number: u64,
+    pub place: usize,
+    pub start: usize,
+    pub whole: usize,
+    pub used: usize,
+    pub lost: usize,
+    pub words: usize,
     pub wordbits: usize,
 }
 
@@ -229,16 +242,71 @@ fn refused(number: u64, at: usize) -> Reading
     }
 }
 
+// it is read from nowhere
+fn nowhere(number: u64, at: usize) -> Located
+    ensures { λ r. ⌜ r ≡ nowhere number at ⌝ }
+{
+    Located {
+        number: number,
+        place: at,
+        start: 0,
+        whole: 0,
+        used: 0,
+        lost: 0,
+        words: 0,
+        wordbits: 0,
+    }
+}
+
 // from the first place that stands, with its least k
-fn read_from(image: &[u8], place: usize, k: usize, payload: &mut [u8], slot0: &mut [u8]) -> Reading
+fn located_at(image: &[u8], place: usize, k: usize) -> Located
     requires { ⌜ GoodLength (now image) × (firstStanding (now image) ≡ some (record { place = place; k = k })) ⌝ }
-    ensures { λ r. ⌜ Read (now (image .entry)) (now (payload .entry)) (now (slot0 .entry))
-        r (now (payload .exit)) (now (slot0 .exit)) ⌝ }
+    ensures { λ r. ⌜ r ≡ located (now (image .entry)) ⌝ }
 {
     let start = place + 512 * k;
     let whole = (8 * image.len() - start) / 4096;
     let tracked = track(image, start, whole);
-    let used = tracked.used;
+    Located {
+        number: 0,
+        place: place,
+        start: start,
+        whole: whole,
+        used: tracked.used,
+        lost: tracked.lost,
+        words: tracked.words,
+        wordbits: tracked.wordbits,
+    }
+}
+
+// The first place that stands in an image, and what is used from there on.
+pub fn locate(image: &[u8]) -> Located
+    ensures { λ r. ⌜ r ≡ located (now (image .entry)) ⌝ }
+{
+    if image.len() < 2048 {
+        return nowhere(1, 0);
+    }
+    if 8192 < image.len() {
+        return nowhere(2, 0);
+    }
+    let found = align::find(image);
+    match found {
+        align::Found::At { place, k } => located_at(image, place, k),
+        align::Found::BasicAt { place } => nowhere(15, place),
+        align::Found::Nothing => nowhere(3, 0),
+    }
+}
+
+// An image is read: its payload and its slots 0 go to the two outputs.
+pub fn read(image: &[u8], payload: &mut [u8], slot0: &mut [u8]) -> Reading
+    ensures { λ r. ⌜ Read (now (image .entry)) (now (payload .entry)) (now (slot0 .entry))
+        r (now (payload .exit)) (now (slot0 .exit)) ⌝ }
+{
+    let located = locate(image);
+    if located.number != 0 {
+        return refused(located.number, located.place);
+    }
+    let start = located.start;
+    let used = located.used;
     if (payload.len() < 496 * used) | (slot0.len() < 16 * used) {
         return refused(4, 0);
     }
@@ -248,34 +316,15 @@ fn read_from(image: &[u8], place: usize, k: usize, payload: &mut [u8], slot0: &m
     slot0_of(image, start, used, slot0);
     Reading {
         number: 0,
-        place: place,
+        place: located.place,
         start: start,
-        whole: whole,
+        whole: located.whole,
         used: used,
-        lost: tracked.lost,
-        words: tracked.words,
+        lost: located.lost,
+        words: located.words,
         compared: judged.compared,
         errored: judged.errored,
         farend: farend,
-        wordbits: tracked.wordbits,
-    }
-}
-
-// An image is read: its payload and its slots 0 go to the two outputs.
-pub fn read(image: &[u8], payload: &mut [u8], slot0: &mut [u8]) -> Reading
-    ensures { λ r. ⌜ Read (now (image .entry)) (now (payload .entry)) (now (slot0 .entry))
-        r (now (payload .exit)) (now (slot0 .exit)) ⌝ }
-{
-    if image.len() < 2048 {
-        return refused(1, 0);
-    }
-    if 8192 < image.len() {
-        return refused(2, 0);
-    }
-    let found = align::find(image);
-    match found {
-        align::Found::At { place, k } => read_from(image, place, k, payload, slot0),
-        align::Found::BasicAt { place } => refused(15, place),
-        align::Found::Nothing => refused(3, 0),
+        wordbits: located.wordbits,
     }
 }

@@ -3,7 +3,7 @@
 use Prim.Native.Nat.{ℕ, zero, suc, _+_, _*_, _%_, _≤_}
 use mathlib.Core.Path.{_≡_, refl, sym, ap, ap₂, _∙_}
 use mathlib.Core.Bool.{Bool, _&&_, and-eq-true-iff}
-use mathlib.Core.List.{List, _++_}
+use mathlib.Core.List.{List, [], _∷_, _++_}
 use native.Mathlib.Decide.{decLt}
 use native.Mathlib.Omega.{arith}
 use borrow.Author.Tests.{not-false, ltb-true, ltb-false, leb-true, eqb-true}
@@ -12,15 +12,29 @@ use lib.ListN.{length, getD, take, drop, List·getD-eq-default}
 use lib.Seq.{take-at}
 use Rattle.base.specs.Tab.{all}
 use Rattle.base.proofs.TabLaws.{all-at}
-use Rattle.base.proofs.AnswerLaws.{accepted-single, first-tells}
-use Rattle.base.specs.Answer.{accepted}
+use Rattle.base.proofs.AnswerLaws.{accepted-single, joined-first, joined-then, first-tells}
+use Rattle.base.specs.Answer.{accepted, Refusal, _when_, firstOf}
+use Rattle.base.specs.Choice.{if_then_else_}
 use Rattle.e1.specs.Payload.{multiframes, sized}
 use Rattle.write.specs.Writing.{carries, written}
-use Rattle.write.specs.Entry.{overheadLimit, overheadFits, refusals, refusal, accept, refuse, writing, Wrote}
+use Rattle.write.specs.Entry.{overheadLimit, overheadFits, faults, noRoom, refusals, refusal, accept, refuse, writing, Wrote}
 use Rattle.write.specs.Inputs.{Inputs}
 use Rattle.write.proofs.Laws.{limit-range, length-written}
 use Rattle.write.proofs.Joins.{carries-join, written-join}
 use Rattle.write.specs.declared.Written.{Written}
+
+-- the number: what is wrong with what is given comes first
+module _ (p o : List ℕ) (c m : ℕ) where
+  abbrev last : List Refusal
+  last = 4 when noRoom p m ∷ []
+
+  pub fault-first : (n : ℕ) → n ≡ firstOf (faults p o c) → (n ≡ 0 → ⊥) → n ≡ refusal p o c m
+  unfolding refusal
+  fault-first n e h = sym (joined-first last (faults p o c) refl n e h)
+
+  pub no-fault : firstOf (faults p o c) ≡ 0 → (t : Bool) → noRoom p m ≡ t → (if t then 4 else 0) ≡ refusal p o c m
+  unfolding refusal
+  no-fault z t e = sym (joined-then last (faults p o c) refl z ∙ ap (λ t. if t then 4 else 0) e)
 
 -- what an accepted call was given, and its room of m octets
 pub record Fits (p o : List ℕ) (c m : ℕ) : Type 0 where

@@ -20,14 +20,20 @@ overheadLimit h = if ltb (h % 8) 6 then 64 else 128
 unfoldable pub overheadFits : List ℕ → ℕ → Bool
 overheadFits o n = eqb (length o) (8 * n) && all (length o) (λ h. ltb (getD o h 0) (overheadLimit h))
 
--- m is how many octets the output has
-abbrev pub refusals : List ℕ → List ℕ → ℕ → ℕ → List Refusal
-refusals p o c m =
+-- what is wrong with what a call is given, in every entry that writes
+abbrev pub faults : List ℕ → List ℕ → ℕ → List Refusal
+faults p o c =
     5 when not (sized (length p))
     ∷ 6 when not (overheadFits o (multiframes p))
     ∷ 7 when ltb 15 c
-    ∷ 4 when ltb m (512 * multiframes p)
     ∷ []
+
+-- m octets of output are too few
+abbrev pub noRoom : List ℕ → ℕ → Bool
+noRoom p m = ltb m (512 * multiframes p)
+
+abbrev pub refusals : List ℕ → List ℕ → ℕ → ℕ → List Refusal
+refusals p o c m = faults p o c ++ 4 when noRoom p m ∷ []
 
 unfoldable pub refusal : List ℕ → List ℕ → ℕ → ℕ → ℕ
 refusal p o c m = firstOf (refusals p o c m)

@@ -9,7 +9,8 @@ ghost use Rattle.base.specs.Tab.{tab};
 ghost use Rattle.crc.specs.Fold.{remainders};
 ghost use Rattle.e1.specs.Block.{blockCheck};
 ghost use Rattle.write.specs.Writing.{bit1, slot0, block, carries, written};
-ghost use Rattle.write.specs.Entry.{overheadLimit, overheadFits, refusal, Wrote};
+ghost use Rattle.base.specs.Answer.{firstOf};
+ghost use Rattle.write.specs.Entry.{overheadLimit, overheadFits, faults, refusal, Wrote};
 ghost use Rattle.write.specs.Inputs.{Inputs};
 
 // what `write` answers: the number, 0 where the call is accepted, and the check of the last block
@@ -34,7 +35,7 @@ fn bit_1(f: usize, x: u8) -> u8
 }
 
 // slot 0 of frame f, in a block that carries the check k
-fn slot_0(k: u8, f: usize, x: u8) -> u8
+pub fn slot_0(k: u8, f: usize, x: u8) -> u8
     requires { ⌜ x < 128 ⌝ }
     ensures { λ r. ⌜ r ≡ slot0 k f x ⌝ }
 {
@@ -57,7 +58,7 @@ fn taken(payload: &[u8]) -> [u8; 31]
 }
 
 // a frame: slot 0, and its payload in slots 1 to 31
-fn write_frame(slot: u8, payload: &[u8], out: &mut [u8])
+pub fn write_frame(slot: u8, payload: &[u8], out: &mut [u8])
     requires { ⌜ (length (now payload) ≡ 31) × (length (now out) ≡ 32) ⌝ }
     ensures { λ _. ⌜ now (out .exit) ≡ tab 32 (λ j. cond (eqb j 0) slot (getD (now (payload .entry)) (j - 1) 0)) ⌝ }
 {
@@ -157,21 +158,31 @@ fn overhead_fits(overhead: &[u8], n: usize) -> bool
     true
 }
 
-// the number, 0 where the call is accepted; m is how many octets the output has
-fn refusal(payload: &[u8], overhead: &[u8], check: u64, m: usize) -> u64
-    ensures { λ r. ⌜ r ≡ refusal (now (payload .entry)) (now (overhead .entry)) check m ⌝ }
+// what is wrong with what a call is given, by its number
+pub fn fault(payload: &[u8], overhead: &[u8], check: u64) -> u64
+    ensures { λ r. ⌜ r ≡ firstOf (faults (now (payload .entry)) (now (overhead .entry)) check) ⌝ }
 {
-    let n = payload.len() / 496;
     if !e1::is_sized(payload.len()) {
         return 5;
     }
-    if !overhead_fits(overhead, n) {
+    if !overhead_fits(overhead, payload.len() / 496) {
         return 6;
     }
     if 15 < check {
         return 7;
     }
-    if m < 512 * n {
+    0
+}
+
+// the number, 0 where the call is accepted; m is how many octets the output has
+fn refusal(payload: &[u8], overhead: &[u8], check: u64, m: usize) -> u64
+    ensures { λ r. ⌜ r ≡ refusal (now (payload .entry)) (now (overhead .entry)) check m ⌝ }
+{
+    let number = fault(payload, overhead, check);
+    if number != 0 {
+        return number;
+    }
+    if m < 512 * (payload.len() / 496) {
         return 4;
     }
     0

@@ -1,85 +1,86 @@
--- `read` meets its contract: the refusals in their order, and what is read from the place that is found.
-use mathlib.Core.Path.{_≡_, sym, ap, _∙_}
+-- `read` meets its contract: what locating refuses, number 4, or all that is written and counted from the start.
+use Prim.Native.Nat.{_*_, _≤_}
+use mathlib.Core.Path.{refl}
+use mathlib.Mathlib.Data.Bool.Basic.{or-eq-false-eq-eq-false-and-eq-false}
 use native.Mathlib.Omega.{arith}
 use borrow.Author.Needs.{needs}
+use borrow.Author.Tests.{ltb-false}
+use lib.Dec.{ltb}
 use lib.ListN.{length}
-use Rattle.align.specs.Place.{placeOf, firstStanding, firstBasic}
-use Rattle.align.specs.declared.Found.the-variants.{BasicAt}
-use Rattle.align.proofs.Laws.{found-at}
-use Rattle.read.specs.Entry.{GoodLength, placeIn}
-use Rattle.read.proofs.EntryLaws.{number-1, number-2, refused-3, refused-15, refused-as}
+use Rattle.read.proofs.Measures.{Places, places, unplaced-read, short-read, answered}
 use Rattle.read.proofs.read.Statement.{statement}
 use Rattle.read.proofs.read.Tie as tie
 
+-- where the call starts
+abbrev start : tie.After-locate → tie.Start
+start c = c .before .before .before .before
+
 returns : tie.Need-returns
 returns c =
-    let a = c .before .before .before .before .before .args in
-    let p = a .payload .now in
-    let o = a .slot0 .now in
+    let l = c .before .before .before in
+    let a = start l .args in
     rw (c .refused .ensures)
-    (refused-as (a .image .now) p o 0 (number-1 (a .image .now) (length p) (length o) .1 (c .before .if1 .taken)))
+    (unplaced-read (a .image .now) (l .locate .result) (l .locate .ensures) (c .before .if1 .taken) (a .payload .now) (a .slot0 .now))
+
+-- a place stands
+there : (c : tie.Else1) → Places (start (c .before .before) .args .image .now) (c .before .before .locate .result)
+there c =
+    let l = c .before .before in
+    places (start l .args .image .now) (l .locate .result) (l .locate .ensures) (c .if1 .left)
 
 returns-2 : tie.Need-returns-2
 returns-2 c =
-    let a = c .before .before .before .before .before .before .args in
-    let p = a .payload .now in
-    let o = a .slot0 .now in
+    let e = c .before .before in
+    let l = e .before .before in
+    let a = start l .args in
     rw (c .refused2 .ensures)
-    (refused-as (a .image .now) p o 1 (number-2 (a .image .now) (length p) (length o) .1 (c .before .if2 .taken)))
+    (short-read (a .image .now) (l .locate .result) (l .locate .ensures) (e .if1 .left) (a .payload .now) (a .slot0 .now) .0 (c .before .if2 .taken))
 
--- past the first two tests
-good : (c : tie.Else2) → GoodLength (c .before .before .before .before .before .args .image .now)
-good c = record { long = c .before .if1 .left; short = c .if2 .left }
+-- the outputs have room
+fits : (c : tie.Else2)
+    → (let l = c .before .before .before in
+    (496 * l .locate .result .used ≤ length (start l .args .payload .now)) × (16 * l .locate .result .used ≤ length (start l .args .slot0 .now)))
+fits c =
+    let l = c .before .before .before in
+    let g = l .locate .result .used in
+    let a = start l .args in
+    let f = or-eq-false-eq-eq-false-and-eq-false (ltb (length (a .payload .now)) (496 * g)) (ltb (length (a .slot0 .now)) (16 * g)) .0 (c .if2 .left) in
+    (ltb-false _ _ (f .0), ltb-false _ _ (f .1))
 
-read-from-requires : tie.Need-read-from-requires
-read-from-requires c κs =
-    let m = c .before .before .before in
-    let f = m .before .before in
-    let a = f .before .before .before .before .before .before .args in
-    let s = a .image .now in
-    (good (f .before), found-at (firstStanding s) (firstBasic s) _ _ (sym (f .find .ensures) ∙ m .found .given .1))
-
--- number 15, with the place that the search found
-returns-4 : tie.Need-returns-4
-unfolding placeIn
-returns-4 c =
-    let m = c .before .before in
-    let f = m .before .before in
-    let a = f .before .before .before .before .before .before .args in
-    let s = a .image .now in
-    let p = a .payload .now in
-    let o = a .slot0 .now in
-    let e = sym (f .find .ensures) ∙ m .found2 .given .1 in
-    let at : placeIn s ≡ placeOf (BasicAt _) = ap placeOf e in
-    rw (c .refused3 .ensures) (rw at at (refused-as s p o 14 (refused-15 s (length p) (length o) (good (f .before)) _ e)))
-
-returns-5 : tie.Need-returns-5
-returns-5 c =
-    let f = c .before .before .before in
-    let a = f .before .before .before .before .before .before .args in
-    let s = a .image .now in
-    let p = a .payload .now in
-    let o = a .slot0 .now in
-    let e = sym (f .find .ensures) ∙ c .before .enum-told .given .1 in
-    rw (c .refused4 .ensures) (refused-as s p o 2 (refused-3 s (length p) (length o) (good (f .before)) e))
+returns-3 : tie.Need-returns-3
+returns-3 c =
+    let z = c .before .before in
+    let y = z .before .before .before .before in
+    let f = y .before .before in
+    let j = f .before in
+    let e = j .before in
+    let l = e .before .before .before in
+    let a = start l .args in
+    answered (a .image .now) (l .locate .result) (l .locate .ensures) (e .before .if1 .left) (a .payload .now) (a .slot0 .now) _ _ _
+    (short-read (a .image .now) (l .locate .result) (l .locate .ensures) (e .before .if1 .left) (a .payload .now) (a .slot0 .now) .1 (e .if2 .left))
+    refl refl refl refl refl refl refl
+    (j .judge .ensures .0)
+    (j .judge .ensures .1)
+    (f .far-end .ensures)
+    refl
+    (y .payload-of .ensures)
+    (z .slot0-of .ensures)
 
 pub read-spec : {M : Type 1} → statement M
 read-spec =
     tie.close
     (tie.spec
     (search needs)
+    (search needs)
     returns
+    (λ c. omega (arith, there c .few))
+    (λ c. omega (arith, there c .few))
     (search needs)
     returns-2
-    (λ c κs. omega arith)
-    (search needs)
-    read-from-requires
-    (search needs)
-    (search needs)
-    (search needs)
+    (λ c κs. (there (c .before) .room, there (c .before) .first))
+    (λ c κs. there (c .before .before) .room)
+    (λ c κs. let e = c .before .before .before in (there (e .before) .room, fits e .0))
+    (λ c κs. let e = c .before .before .before .before .before .before .before in (there (e .before) .room, fits e .1))
     (search needs)
     (search needs)
-    (search needs)
-    (λ c. c .before .before .before .before .read-from .ensures)
-    returns-4
-    returns-5)
+    returns-3)

@@ -1,64 +1,31 @@
--- `refusal` meets its contract: the numbers in the table's order.
-use mathlib.Core.Path.{_≡_, sym, _∙_}
+-- `refusal` meets its contract: what is wrong with what is given, then number 4.
+use mathlib.Core.Path.{sym, _∙_}
 use mathlib.Core.Bool.{true, false}
-use native.Mathlib.Omega.{arith}
 use borrow.Author.Needs.{needs}
-use borrow.Author.Tests.{lt-ltb, le-ltb, not-true, not-false}
-use lib.Dec.{ltb}
-use lib.ListN.{length}
-use denote.Ref.{now}
-use Rattle.e1.specs.Payload.{multiframes, sized}
-use Rattle.write.specs.Entry.{overheadFits, refusal}
+use borrow.Author.Tests.{lt-ltb, le-ltb}
+use Rattle.write.proofs.Calls.{fault-first, no-fault}
 use Rattle.write.proofs.refusal.Statement.{statement}
 use Rattle.write.proofs.refusal.Tie as tie
 
--- behind each test: where the call starts, and what is passed
-abbrev one : tie.Else1 → tie.Start
-one c = c .before .before .before .before
-
-abbrev two : tie.Else2 → tie.Start
-two c = one (c .before .before)
-
-abbrev three : tie.Else3 → tie.Start
-three c = two (c .before)
-
-whole : (c : tie.Else1) → sized (length (now (one c .args .payload))) ≡ true
-whole c = sym (c .before .is-sized .ensures) ∙ not-false (c .before .is-sized .result) (c .if1 .left)
-
-fits : (c : tie.Else2) → let a = two c .args in overheadFits (now (a .overhead)) (multiframes (now (a .payload))) ≡ true
-fits c = sym (c .before .overhead-fits .ensures) ∙ not-false (c .before .overhead-fits .result) (c .if2 .left)
-
-small : (c : tie.Else3) → ltb 15 (three c .args .check) ≡ false
-small c = le-ltb 15 (three c .args .check) (omega (arith, c .if3 .left))
-
 returns : tie.Need-returns
-unfolding refusal
-returns c = rw (sym (c .before .is-sized .ensures) ∙ not-true _ (c .if1 .taken))
+returns c =
+    let f = c .before in
+    let a = f .before .before .before .args in
+    fault-first (a .payload .now) (a .overhead .now) (a .check) (a .m) (f .fault .result) (f .fault .ensures) (c .if1 .taken)
 
 returns-2 : tie.Need-returns-2
-unfolding refusal
-returns-2 c = rw (whole (c .before .before), sym (c .before .overhead-fits .ensures) ∙ not-true _ (c .if2 .taken))
+returns-2 c =
+    let e = c .before in
+    let a = e .before .before .before .before .args in
+    no-fault (a .payload .now) (a .overhead .now) (a .check) (a .m) (sym (e .before .fault .ensures) ∙ e .if1 .left) true
+    (lt-ltb _ _ (c .if2 .taken))
 
 returns-3 : tie.Need-returns-3
-unfolding refusal
 returns-3 c =
-    let d = c .before in
-    rw (whole (d .before .before), fits d, lt-ltb 15 (two d .args .check) (omega (arith, c .if3 .taken)))
-
-returns-4 : tie.Need-returns-4
-unfolding refusal
-returns-4 c =
-    let d = c .before in
-    let e = d .before in
-    rw (whole (e .before .before), fits e, small d, lt-ltb _ _ (c .if4 .taken))
-
-returns-5 : tie.Need-returns-5
-unfolding refusal
-returns-5 c =
-    let d = c .before in
-    let e = d .before in
-    rw (whole (e .before .before), fits e, small d, le-ltb _ _ (c .if4 .left))
+    let e = c .before in
+    let a = e .before .before .before .before .args in
+    no-fault (a .payload .now) (a .overhead .now) (a .check) (a .m) (sym (e .before .fault .ensures) ∙ e .if1 .left) false
+    (le-ltb _ _ (c .if2 .left))
 
 pub refusal-spec : {M : Type 1} → statement M
-refusal-spec =
-    tie.close (tie.spec (search needs) returns (search needs) returns-2 returns-3 (search needs) returns-4 returns-5)
+refusal-spec = tie.close (tie.spec (search needs) returns (search needs) returns-2 returns-3)
