@@ -1,0 +1,3 @@
+pub mod Slot16
+pub mod Entry
+pub mod Given

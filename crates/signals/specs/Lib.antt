@@ -1,0 +1,4 @@
+pub mod Signalling
+pub mod Lost
+pub mod Entry
+pub mod Follow
