@@ -22,6 +22,14 @@ use Rattle.write.specs.Entry as writes
 use Rattle.write.specs.Writing.{written}
 use Rattle.write.proofs.Laws.{length-written}
 use Rattle.write.proofs.Calls.{wrote-number, wrote-refused}
+use Rattle.signals.specs.Signalling.{abcdIn}
+use Rattle.signals.specs.Entry as signals
+use Rattle.signals.specs.Entry.{slot16In, filled, Signalled}
+use Rattle.signals.specs.declared.Signalling.{Signalling}
+use Rattle.signals.proofs.EntryLaws.{abcd-length, signals-number, signals-accepted, signals-refused}
+use Rattle.signalled.specs.Entry as signalled
+use Rattle.signalled.specs.Slot16.{withSlot16}
+use Rattle.signalled.proofs.Calls as signalling
 use Rattle.exchange.specs.declared.State.{State}
 use Rattle.exchange.specs.Mapping.{entryAt, mappedPayload, mapped}
 use Rattle.exchange.specs.Machine.{accept, hosted, hostRefusal, hostAfter, hostEntry, between, outside, locked}
@@ -41,15 +49,24 @@ kind-3 : (s : State) (a b h : ℕ) → 1 ≤ a → a ≤ 31 → hosted s (3 ∷ 
 unfolding hostRefusal hostAfter hostEntry between outside locked unstaged
 kind-3 s a b h l u = rw (le-leb 1 a l, le-leb a 31 u)
 
+-- how many octets a reading of signalling fills
+heard-kept : (s out : List ℕ) (r : Signalling) (out' : List ℕ) → Signalled s out r out' → r .number ≡ 0
+    → 30 * r .multiframes ≡ filled (slot16In s)
+unfolding signals.accept
+heard-kept s out r out' h z = ap (λ (x : Signalling). 30 * x .multiframes) (signals-accepted s out r out' h z .0)
+
 pub demand-1 : Demand1
-unfolding whyRefusal reads.refusal reads.accept writes.refusal mapped afterCall
+unfolding whyRefusal reads.refusal reads.accept writes.refusal signals.refusal signalled.refusal mapped afterCall
 demand-1 =
     record {
       read-number = λ s payload slot0 r payload' slot0' h.
           rw (read-number s payload slot0 r payload' slot0' h)
           (first-listed (reads.refusals s (length payload) (length slot0)));
+      signals-number = λ s out r out' h. rw (signals-number s out r out' h) (first-listed (signals.refusals s (length out)));
       why-number = λ s p. rw (why-number s p) (first-listed (whyRefusals s p));
       write-number = λ p o c out r out' h. rw (wrote-number h) (first-listed (writes.refusals p o c (length out)));
+      write-signalled-number = λ p o c xy v out r out' h.
+          rw (signalling.wrote-number h) (first-listed (signalled.refusals p o c xy v (length out)));
       call-number = laws.number-is-listed;
       read-refused = λ s payload slot0 r payload' slot0' n h e.
           let f = read-refused s payload slot0 r payload' slot0' n h e in
@@ -58,8 +75,10 @@ demand-1 =
       read-no-place = λ s payload slot0 r payload' slot0' n h e other.
           ap (λ (x : Reading). x .place) (read-refused s payload slot0 r payload' slot0' n h e .0)
           ∙ ap (λ t. if t then reads.placeIn s else 0) (ne-eqb (suc n) 15 other);
+      signals-refused = λ s out r out' n h e. signals-refused s out r out' n h e;
       why-refused = λ s p n e. rw (why-refused s p n .1 (sym (why-number s p) ∙ e)) refl;
       write-refused = λ p o c out r out' n h e. wrote-refused n h e;
+      write-signalled-refused = λ p o c xy v out r out' n h e. signalling.wrote-refused n h e;
       call-refused = laws.refused-changes-nothing;
       read-kept = λ s payload slot0 r payload' slot0' h z.
           let q = startIn s in
@@ -73,6 +92,14 @@ demand-1 =
       write-kept = λ p o c out r out' h z.
           let n = multiframes p in
           behind (written p o c (2 * n)) out (512 * n) (h .its-out) z (length-written p o c (2 * n) ∙ omega arith);
+      signals-kept = λ s out r out' h z.
+          let t = slot16In s in
+          let e = heard-kept s out r out' h z in
+          rw e (behind (abcdIn t (length t)) out (filled t) (h .its-out) z (abcd-length t (length t)));
+      write-signalled-kept = λ p o c xy v out r out' h z.
+          let n = multiframes p in
+          behind (written (withSlot16 p xy v) o c (2 * n)) out (512 * n) (h .its-out) z
+          (length-written (withSlot16 p xy v) o c (2 * n) ∙ omega arith);
       map-kept = λ map payload out r out' h z.
           behind (mappedPayload map payload) out (length payload) (h .its-out)
           (sym (h .its-number) ∙ z)

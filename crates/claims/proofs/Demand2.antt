@@ -109,10 +109,10 @@ module _ (p o : List ℕ) (c n : ℕ) (g : Inputs p o c n) where
   abbrev line : List ℕ
   line = written p o c (2 * n)
 
-  long : length line ≡ 512 * n
+  pub long : length line ≡ 512 * n
   long = writes.length-written p o c (2 * n) ∙ omega arith
 
-  framed : Framed line n
+  pub framed : Framed line n
   framed =
       record {
         long = long;
@@ -145,7 +145,7 @@ module _ (p o : List ℕ) (c n : ℕ) (g : Inputs p o c n) where
         }
 
     module _ (four : 4 ≤ n) (few : n ≤ 16) where
-      start : reading.startIn line ≡ 0
+      pub start : reading.startIn line ≡ 0
       start = sym (start-is line (record { place = 0; k = 0 }) (unbroken.stands-at-once line n framed four))
 
       whole-n : reading.wholeIn line ≡ n
@@ -154,7 +154,7 @@ module _ (p o : List ℕ) (c n : ℕ) (g : Inputs p o c n) where
       no-loss : reading.lossIn line ≡ none
       no-loss = ap₂ (loss line) start whole-n ∙ unbroken.never-lost line n framed
 
-      used-n : reading.usedIn line ≡ n
+      pub used-n : reading.usedIn line ≡ n
       used-n = ap₂ usedOf no-loss whole-n
 
       neither : (a b : Bool) → a ≡ false → b ≡ false → a || b ≡ false

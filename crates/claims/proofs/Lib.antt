@@ -8,6 +8,9 @@ pub mod Demand2
 pub mod Demand3
 pub mod Accepts
 pub mod Reasons
+pub mod Regular
+pub mod SignalsBack
+pub mod Signals
 pub mod Interface
 pub mod Single
 pub mod Bench

@@ -6,6 +6,7 @@ use Rattle.claims.proofs.Demand3.{demand-3}
 use Rattle.claims.proofs.Counts.{counts}
 use Rattle.claims.proofs.Accepts.{accepts}
 use Rattle.claims.proofs.Reasons.{reasons}
+use Rattle.claims.proofs.Signals.{signals}
 use Rattle.claims.proofs.Interface.{interface}
 use Rattle.claims.proofs.Single.{single}
 use Rattle.claims.proofs.Bench.{bench}
@@ -19,6 +20,7 @@ promises =
       counts = counts;
       accepts = accepts;
       reasons = reasons;
+      signals = signals;
       interface = interface;
       single = single;
       bench = bench;

@@ -2,25 +2,31 @@
 use mathlib.Core.Path.{sym, _∙_}
 use Rattle.read.proofs.EntryLaws.{read-single}
 use Rattle.write.proofs.Calls.{wrote-single}
+use Rattle.signals.proofs.EntryLaws.{signals-single}
+use Rattle.signalled.proofs.Calls as signalled
 use Rattle.exchange.proofs.MapLaws.{mapped-single}
-use Rattle.jikhvanto.proofs.Laws.{jk-read-single, jk-why-single, jk-write-single, jk-start-single, jk-host-single, jk-key-single}
-use Rattle.jikhvanto.proofs.Laws.{jk-boundary-single, jk-map-single}
+use Rattle.jikhvanto.proofs.Laws.{jk-read-single, jk-signals-single, jk-why-single, jk-write-single, jk-write-signalled-single}
+use Rattle.jikhvanto.proofs.Laws.{jk-start-single, jk-host-single, jk-key-single, jk-boundary-single, jk-map-single}
 use Rattle.claims.specs.Single.{Single}
 
 pub single : Single
 single =
     record {
       read = read-single;
+      signals = λ s out r r' x x' h h'. signals-single s out r r' x x' h h';
       why = λ s p r r' e e'. e ∙ sym e';
       write = λ p o c out r r' x x' h h'. wrote-single h h';
+      write-signalled = λ p o c xy v out r r' x x' h h'. signalled.wrote-single h h';
       map-payload = mapped-single;
       start = λ s s' e e'. e ∙ sym e';
       host = λ s octets r r' e e'. e ∙ sym e';
       key = λ s position r r' e e'. e ∙ sym e';
       boundary = λ s r r' e e'. e ∙ sym e';
       jk-read = λ image payload slot0 r r' p p' o o' a a' h h'. jk-read-single h h';
+      jk-signals = λ image abcd r r' x x' a a' h h'. jk-signals-single h h';
       jk-why = λ image place r r' a a' h h'. jk-why-single h h';
       jk-write = λ payload overhead check out r r' x x' a a' h h'. jk-write-single h h';
+      jk-write-signalled = λ payload overhead check xy abcd out r r' x x' a a' h h'. jk-write-signalled-single h h';
       jk-start = λ s s' h h'. jk-start-single h h';
       jk-host = λ state octets r r' s s' a a' h h'. jk-host-single h h';
       jk-key = λ state position r r' s s' h h'. jk-key-single h h';

@@ -11,6 +11,10 @@ use Rattle.read.specs.Entry.{GoodLength, usedIn}
 use Rattle.read.specs.Entry as reads
 use Rattle.write.specs.Entry.{overheadLimit}
 use Rattle.write.specs.Entry as writes
+use Rattle.e1.specs.Payload.{multiframes}
+use Rattle.signals.specs.Entry.{slot16In, filled}
+use Rattle.signals.specs.Entry as signals
+use Rattle.signalled.specs.Entry as signalled
 use Rattle.exchange.specs.declared.State.{State}
 use Rattle.exchange.specs.Mapping.{mapRefusal}
 use Rattle.exchange.specs.Machine.{kindOf, aOf, bOf, hostRefusal, keyRefusal}
@@ -23,6 +27,14 @@ pub record ToRead (s : List ℕ) (a b : ℕ) : Type 0 where
   pub stands : Stands s p k
   pub payload : 496 * usedIn s ≤ a
   pub slot0 : 16 * usedIn s ≤ b
+
+-- an image s, with a octets of room in the output
+pub record ToHear (s : List ℕ) (a : ℕ) : Type 0 where
+  pub good : GoodLength s
+  pub p : ℕ
+  pub k : ℕ
+  pub stands : Stands s p k
+  pub room : filled (slot16In s) ≤ a
 
 -- an image s, and a place p of it that is asked about
 pub record ToAsk (s : List ℕ) (p : ℕ) : Type 0 where
@@ -39,6 +51,14 @@ pub record ToWrite (p o : List ℕ) (c m : ℕ) : Type 0 where
   pub limited : (h : ℕ) → h < 8 * n → getD o h 0 < overheadLimit h
   pub check : c ≤ 15
   pub room : 512 * n ≤ m
+
+-- the same, with signalling xy and v
+pub record ToSignal (p o : List ℕ) (c : ℕ) (xy v : List ℕ) (m : ℕ) : Type 0 where
+  pub written : ToWrite p o c m
+  pub xy-octets : length xy ≡ multiframes p
+  pub xy-limited : (i : ℕ) → i < multiframes p → getD xy i 0 ≤ 15
+  pub abcd-octets : length v ≡ 30 * multiframes p
+  pub abcd-limited : (i : ℕ) → i < 30 * multiframes p → (1 ≤ getD v i 0) × (getD v i 0 ≤ 15)
 
 -- a record r, in the state s
 pub record ToHost (s : State) (r : List ℕ) : Type 0 where
@@ -61,8 +81,11 @@ pub record ToMap (payload out : List ℕ) : Type 0 where
 -- the number is 0 exactly for these; a boundary is never refused
 pub record Accepts : Type 0 where
   pub read : (s : List ℕ) (a b : ℕ) → reads.refusal s a b ≡ 0 ↔ ToRead s a b
+  pub signals : (s : List ℕ) (a : ℕ) → signals.refusal s a ≡ 0 ↔ ToHear s a
   pub why : (s : List ℕ) (p : ℕ) → whyRefusal s p ≡ 0 ↔ ToAsk s p
   pub write : (p o : List ℕ) (c m : ℕ) → writes.refusal p o c m ≡ 0 ↔ ToWrite p o c m
+  pub write-signalled : (p o : List ℕ) (c : ℕ) (xy v : List ℕ) (m : ℕ)
+      → signalled.refusal p o c xy v m ≡ 0 ↔ ToSignal p o c xy v m
   pub host : (s : State) (r : List ℕ) → hostRefusal s r ≡ 0 ↔ ToHost s r
   pub key : (position : ℕ) → keyRefusal position ≡ 0 ↔ (position ≡ 0) ⊎ (position ≡ 1)
   pub map : (payload out : List ℕ) → mapRefusal payload out ≡ 0 ↔ ToMap payload out

@@ -4,21 +4,24 @@ use mathlib.Core.Path.{_≡_}
 use mathlib.Core.Bool.{Bool, true, _&&_}
 use mathlib.Core.List.{List, [], _∷_}
 use lib.Dec.{eqb}
+use lib.ListN.{length, replicate}
 use Rattle.base.specs.Choice.{if_then_else_}
 use Rattle.base.specs.Tab.{tab, sum}
 use Rattle.e1.specs.Block.{blockCheck}
 use Rattle.e1.specs.Frame.{evenSlot0, oddSlot0}
+use Rattle.signals.specs.Signalling.{firstIn}
 use Rattle.exchange.specs.Mapping.{entryAt}
 use Rattle.exchange.specs.Machine.{startState}
 use Rattle.base.specs.Answer.{among}
 use Rattle.exchange.specs.Runs.{Call, host, key, boundary, afterRun}
 
 -- A case: the places of a block's bits that are 1, and its check; an octet, and what it is; a run from the start, a
--- slot, and its live entry then.
+-- slot, and its live entry then; slot 16 of frames in a row, and the first at which alignment is taken.
 pub data Case : Type 0 where
   ones : List ℕ → ℕ → Case
   octet : ℕ → ℕ → Case
   run : List Call → ℕ → ℕ → Case
+  taken : List ℕ → ℕ → Case
 
 -- the octets of a block with ones at these places alone
 unfoldable pub blockOf : List ℕ → List ℕ
@@ -28,6 +31,7 @@ unfoldable pub holds : Case → Bool
 holds (ones places c) = eqb (blockCheck (blockOf places) 0) c
 holds (octet x y) = eqb x y
 holds (run calls slot entry) = eqb (entryAt (afterRun startState calls .live) slot) entry
+holds (taken t f) = eqb (firstIn t (length t)) f
 
 abbrev pub allHold : List Case → Bool
 allHold [] = true
@@ -64,6 +68,8 @@ cases =
     ∷ run (key 1 ∷ stage59 ∷ commit ∷ key 0 ∷ boundary ∷ key 1 ∷ []) 5 5
     -- 8
     ∷ run (key 1 ∷ stage59 ∷ commit ∷ boundary ∷ key 0 ∷ []) 5 9
+    -- 17
+    ∷ taken (11 ∷ replicate 15 0) 1
     ∷ []
 
 abbrev pub Bench : Type 0

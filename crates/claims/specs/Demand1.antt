@@ -15,6 +15,10 @@ use Rattle.read.specs.declared.Reading.{Reading}
 use Rattle.write.specs.Entry.{Wrote}
 use Rattle.write.specs.Entry as writes
 use Rattle.write.specs.declared.Written.{Written}
+use Rattle.signals.specs.Entry.{Signalled}
+use Rattle.signals.specs.Entry as signals
+use Rattle.signals.specs.declared.Signalling.{Signalling}
+use Rattle.signalled.specs.Entry as signalled
 use Rattle.exchange.specs.declared.State.{State}
 use Rattle.exchange.specs.Mapping.{entryAt, Mapped}
 use Rattle.exchange.specs.Machine.{startState, accept, hosted}
@@ -25,9 +29,13 @@ pub record Demand1 : Type 0 where
   -- it answers, or refuses by a number from its list of the table; the calls on a state have theirs in `numbersOf`
   pub read-number : (s payload slot0 : List ℕ) (r : Reading) (payload' slot0' : List ℕ)
       → Read s payload slot0 r payload' slot0' → among (r .number) (0 ∷ 1 ∷ 2 ∷ 3 ∷ 15 ∷ 4 ∷ []) ≡ true
+  pub signals-number : (s out : List ℕ) (r : Signalling) (out' : List ℕ)
+      → Signalled s out r out' → among (r .number) (0 ∷ 1 ∷ 2 ∷ 3 ∷ 15 ∷ 4 ∷ []) ≡ true
   pub why-number : (s : List ℕ) (p : ℕ) → among (whyNumber (why s p)) (0 ∷ 1 ∷ 2 ∷ 14 ∷ []) ≡ true
   pub write-number : (p o : List ℕ) (c : ℕ) (out : List ℕ) (r : Written) (out' : List ℕ)
       → Wrote p o c out r out' → among (r .number) (0 ∷ 5 ∷ 6 ∷ 7 ∷ 4 ∷ []) ≡ true
+  pub write-signalled-number : (p o : List ℕ) (c : ℕ) (xy v out : List ℕ) (r : Written) (out' : List ℕ)
+      → signalled.Wrote p o c xy v out r out' → among (r .number) (0 ∷ 5 ∷ 6 ∷ 7 ∷ 16 ∷ 4 ∷ []) ≡ true
   pub call-number : (s : State) (c : Call) → among (answer s c .number) (0 ∷ numbersOf c) ≡ true
   -- A refusal changes no octet and no state, and answers zeros beside its number. There is one exception: number 15 of
   -- a reading has a place beside it, and Demand 2 says which.
@@ -36,10 +44,14 @@ pub record Demand1 : Type 0 where
       → (r ≡ reads.refuse (suc n) (r .place)) × (payload' ≡ payload) × (slot0' ≡ slot0)
   pub read-no-place : (s payload slot0 : List ℕ) (r : Reading) (payload' slot0' : List ℕ) (n : ℕ)
       → Read s payload slot0 r payload' slot0' → r .number ≡ suc n → suc n ≢ 15 → r .place ≡ 0
+  pub signals-refused : (s out : List ℕ) (r : Signalling) (out' : List ℕ) (n : ℕ)
+      → Signalled s out r out' → r .number ≡ suc n → (r ≡ signals.refuse (suc n)) × (out' ≡ out)
   pub why-refused : (s : List ℕ) (p n : ℕ) → whyNumber (why s p) ≡ suc n
       → whyValues (why s p) ≡ suc n ∷ 0 ∷ 0 ∷ 0 ∷ []
   pub write-refused : (p o : List ℕ) (c : ℕ) (out : List ℕ) (r : Written) (out' : List ℕ) (n : ℕ)
       → Wrote p o c out r out' → r .number ≡ suc n → (r ≡ writes.refuse (suc n)) × (out' ≡ out)
+  pub write-signalled-refused : (p o : List ℕ) (c : ℕ) (xy v out : List ℕ) (r : Written) (out' : List ℕ) (n : ℕ)
+      → signalled.Wrote p o c xy v out r out' → r .number ≡ suc n → (r ≡ writes.refuse (suc n)) × (out' ≡ out)
   pub call-refused : (s : State) (c : Call) → (answer s c .number ≡ 0 → ⊥)
       → (afterCall s c ≡ s) × (answer s c .entry ≡ 0) × (answer s c .output ≡ lent c)
   -- in an accepted call output octets past the needed length keep what they held
@@ -49,6 +61,11 @@ pub record Demand1 : Type 0 where
       × (drop (16 * r .used) slot0' ≡ drop (16 * r .used) slot0)
   pub write-kept : (p o : List ℕ) (c : ℕ) (out : List ℕ) (r : Written) (out' : List ℕ)
       → Wrote p o c out r out' → r .number ≡ 0 → drop (512 * multiframes p) out' ≡ drop (512 * multiframes p) out
+  pub signals-kept : (s out : List ℕ) (r : Signalling) (out' : List ℕ)
+      → Signalled s out r out' → r .number ≡ 0 → drop (30 * r .multiframes) out' ≡ drop (30 * r .multiframes) out
+  pub write-signalled-kept : (p o : List ℕ) (c : ℕ) (xy v out : List ℕ) (r : Written) (out' : List ℕ)
+      → signalled.Wrote p o c xy v out r out' → r .number ≡ 0
+      → drop (512 * multiframes p) out' ≡ drop (512 * multiframes p) out
   pub map-kept : (map payload out : List ℕ) (r : ℕ) (out' : List ℕ)
       → Mapped map payload out r out' → r ≡ 0 → drop (length payload) out' ≡ drop (length payload) out
   -- the flag always equals the last accepted key position, off at the start

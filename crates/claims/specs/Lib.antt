@@ -4,6 +4,7 @@ pub mod Demand3
 pub mod Counts
 pub mod Accepts
 pub mod Reasons
+pub mod Signals
 pub mod Interface
 pub mod Single
 pub mod Bench

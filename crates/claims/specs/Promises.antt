@@ -5,6 +5,7 @@ use Rattle.claims.specs.Demand3.{Demand3}
 use Rattle.claims.specs.Counts.{Counts}
 use Rattle.claims.specs.Accepts.{Accepts}
 use Rattle.claims.specs.Reasons.{Reasons}
+use Rattle.claims.specs.Signals.{Signals}
 use Rattle.claims.specs.Interface.{Interface}
 use Rattle.claims.specs.Single.{Single}
 use Rattle.claims.specs.Bench.{Bench}
@@ -16,6 +17,7 @@ pub record Promises : Type 0 where
   pub counts : Counts
   pub accepts : Accepts
   pub reasons : Reasons
+  pub signals : Signals
   pub interface : Interface
   pub single : Single
   pub bench : Bench

@@ -1,5 +1,6 @@
 -- Nothing is left open: any two results that an entry's contract admits are equal, with what they leave in every lent
--- octet. The entries are those of `align`, `read`, `write` and `exchange`, and the eight functions of the C interface over them.
+-- octet. The entries are those of `align`, `read`, `signals`, `write`, `signalled` and `exchange`, and the ten functions
+-- of the C interface over them.
 use Prim.Native.Nat.{ℕ}
 use mathlib.Core.Path.{_≡_}
 use mathlib.Core.List.{List}
@@ -9,18 +10,26 @@ use Rattle.read.specs.Entry.{Read}
 use Rattle.read.specs.declared.Reading.{Reading}
 use Rattle.write.specs.Entry.{Wrote}
 use Rattle.write.specs.declared.Written.{Written}
+use Rattle.signals.specs.Entry.{Signalled}
+use Rattle.signals.specs.declared.Signalling.{Signalling}
+use Rattle.signalled.specs.Entry as signalled
 use Rattle.exchange.specs.Mapping.{Mapped}
 use Rattle.exchange.specs.Machine.{startState, hosted, keyed, crossed}
 use Rattle.exchange.specs.declared.State.{State}
 use Rattle.exchange.specs.declared.Answered.{Answered}
-use Rattle.jikhvanto.specs.Calls.{JkRead, JkWhy, JkWrite, JkStart, JkHost, JkKey, JkBoundary, JkMap}
+use Rattle.jikhvanto.specs.Calls.{JkRead, JkSignals, JkWhy, JkWrite, JkWriteSignalled}
+use Rattle.jikhvanto.specs.Calls.{JkStart, JkHost, JkKey, JkBoundary, JkMap}
 
 pub record Single : Type 0 where
   pub read : (s payload slot0 : List ℕ) (r r' : Reading) (p p' o o' : List ℕ)
       → Read s payload slot0 r p o → Read s payload slot0 r' p' o' → (r ≡ r') × (p ≡ p') × (o ≡ o')
+  pub signals : (s out : List ℕ) (r r' : Signalling) (x x' : List ℕ)
+      → Signalled s out r x → Signalled s out r' x' → (r ≡ r') × (x ≡ x')
   pub why : (s : List ℕ) (p : ℕ) (r r' : Why) → r ≡ why s p → r' ≡ why s p → r ≡ r'
   pub write : (p o : List ℕ) (c : ℕ) (out : List ℕ) (r r' : Written) (x x' : List ℕ)
       → Wrote p o c out r x → Wrote p o c out r' x' → (r ≡ r') × (x ≡ x')
+  pub write-signalled : (p o : List ℕ) (c : ℕ) (xy v out : List ℕ) (r r' : Written) (x x' : List ℕ)
+      → signalled.Wrote p o c xy v out r x → signalled.Wrote p o c xy v out r' x' → (r ≡ r') × (x ≡ x')
   pub map-payload : (map payload out : List ℕ) (r r' : ℕ) (x x' : List ℕ)
       → Mapped map payload out r x → Mapped map payload out r' x' → (r ≡ r') × (x ≡ x')
   pub start : (s s' : State) → s ≡ startState → s' ≡ startState → s ≡ s'
@@ -30,10 +39,15 @@ pub record Single : Type 0 where
   pub jk-read : (image payload slot0 : List ℕ) (r r' : ℕ) (p p' o o' a a' : List ℕ)
       → JkRead image payload slot0 r p o a → JkRead image payload slot0 r' p' o' a'
       → (r ≡ r') × (p ≡ p') × (o ≡ o') × (a ≡ a')
+  pub jk-signals : (image abcd : List ℕ) (r r' : ℕ) (x x' a a' : List ℕ)
+      → JkSignals image abcd r x a → JkSignals image abcd r' x' a' → (r ≡ r') × (x ≡ x') × (a ≡ a')
   pub jk-why : (image : List ℕ) (place r r' : ℕ) (a a' : List ℕ) → JkWhy image place r a → JkWhy image place r' a'
       → (r ≡ r') × (a ≡ a')
   pub jk-write : (payload overhead : List ℕ) (check : ℕ) (out : List ℕ) (r r' : ℕ) (x x' a a' : List ℕ)
       → JkWrite payload overhead check out r x a → JkWrite payload overhead check out r' x' a'
+      → (r ≡ r') × (x ≡ x') × (a ≡ a')
+  pub jk-write-signalled : (payload overhead : List ℕ) (check : ℕ) (xy abcd out : List ℕ) (r r' : ℕ) (x x' a a' : List ℕ)
+      → JkWriteSignalled payload overhead check xy abcd out r x a → JkWriteSignalled payload overhead check xy abcd out r' x' a'
       → (r ≡ r') × (x ≡ x') × (a ≡ a')
   pub jk-start : (s s' : List ℕ) → JkStart s → JkStart s' → s ≡ s'
   pub jk-host : (state octets : List ℕ) (r r' : ℕ) (s s' a a' : List ℕ)

@@ -10,12 +10,15 @@ use lib.Seq.{take-at, drop-at, length-take-le}
 use mir.Val.{boolByte}
 use Rattle.exchange.specs.declared.State.{State}
 use Rattle.exchange.proofs.MapLaws.{mapped-single}
-use Rattle.write.specs.Entry.{writing}
+use Rattle.write.specs.Entry as plain
 use Rattle.exchange.specs.Machine.{hosted}
 use Rattle.read.proofs.EntryLaws.{read-single}
 use Rattle.write.proofs.Calls.{wrote-single}
+use Rattle.signals.proofs.EntryLaws.{signals-single}
+use Rattle.signalled.specs.Entry.{writing}
+use Rattle.signalled.proofs.Calls as signalled
 use Rattle.jikhvanto.specs.Octets.{mapAt, stateOf, flagsOf, octetsOf, pairPlaces}
-use Rattle.jikhvanto.specs.Calls.{JkRead, JkWhy, JkWrite, JkStart, JkHost, JkKey, JkBoundary, JkMap}
+use Rattle.jikhvanto.specs.Calls.{JkRead, JkSignals, JkWhy, JkWrite, JkWriteSignalled, JkStart, JkHost, JkKey, JkBoundary, JkMap}
 
 -- the maps have 32 octets each, as in every state that is unpacked
 abbrev pub Maps : State → Type 0
@@ -67,6 +70,14 @@ jk-read-single h k =
     let e = read-single _ _ _ _ _ _ _ _ _ (h .its-outputs) (k .its-outputs) in
     (h .its-number ∙ sym (k .its-number), e .1, e .2, h .its-answer ∙ sym (k .its-answer))
 
+pub jk-signals-single : {image abcd : List ℕ} {r r₁ : ℕ} {o o₁ a a₁ : List ℕ}
+    → JkSignals image abcd r o a → JkSignals image abcd r₁ o₁ a₁ → (r ≡ r₁) × (o ≡ o₁) × (a ≡ a₁)
+jk-signals-single h k = (
+  h .its-number ∙ sym (k .its-number),
+  signals-single _ _ _ _ _ _ (h .its-output) (k .its-output) .1,
+  h .its-answer ∙ sym (k .its-answer),
+)
+
 pub jk-why-single : {image : List ℕ} {place r r₁ : ℕ} {a a₁ : List ℕ} → JkWhy image place r a → JkWhy image place r₁ a₁
     → (r ≡ r₁) × (a ≡ a₁)
 jk-why-single h k = (h .its-number ∙ sym (k .its-number), h .its-answer ∙ sym (k .its-answer))
@@ -77,7 +88,17 @@ jk-write-single {payload} {overhead} {check} {out} h k =
     let e = h .its-number ∙ sym (k .its-number) in (
       e,
       wrote-single (h .its-output) (k .its-output) .1,
-      h .its-answer ∙ ap (λ x. pairPlaces x (writing payload overhead check (length out) .check)) e ∙ sym (k .its-answer),
+      h .its-answer ∙ ap (λ x. pairPlaces x (plain.writing payload overhead check (length out) .check)) e ∙ sym (k .its-answer),
+    )
+
+pub jk-write-signalled-single : {payload overhead : List ℕ} {check : ℕ} {xy abcd out : List ℕ} {r r₁ : ℕ} {o o₁ a a₁ : List ℕ}
+    → JkWriteSignalled payload overhead check xy abcd out r o a → JkWriteSignalled payload overhead check xy abcd out r₁ o₁ a₁
+    → (r ≡ r₁) × (o ≡ o₁) × (a ≡ a₁)
+jk-write-signalled-single {payload} {overhead} {check} {xy} {abcd} {out} h k =
+    let e = h .its-number ∙ sym (k .its-number) in (
+      e,
+      signalled.wrote-single (h .its-output) (k .its-output) .1,
+      h .its-answer ∙ ap (λ x. pairPlaces x (writing payload overhead check xy abcd (length out) .check)) e ∙ sym (k .its-answer),
     )
 
 pub jk-start-single : {s s₁ : List ℕ} → JkStart s → JkStart s₁ → s ≡ s₁

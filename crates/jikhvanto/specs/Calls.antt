@@ -7,15 +7,22 @@ use lib.ListN.{length}
 use Rattle.align.specs.Why.{why, whyNumber}
 use Rattle.read.specs.Entry.{Read, reading}
 use Rattle.write.specs.Entry.{Wrote, writing}
+use Rattle.signals.specs.Entry.{Signalled, signalling}
+use Rattle.signalled.specs.Entry as signalled
 use Rattle.exchange.specs.Mapping.{Mapped}
 use Rattle.exchange.specs.Machine.{startState, hosted, keyed, crossed}
 use Rattle.jikhvanto.specs.Octets.{stateOf, octetsOf, stored, hostStored, readingPlaces, whyPlaces}
-use Rattle.jikhvanto.specs.Octets.{pairPlaces}
+use Rattle.jikhvanto.specs.Octets.{signallingPlaces, pairPlaces}
 
 pub record JkRead (image payload slot0 : List ℕ) (r : ℕ) (payload' slot0' answer' : List ℕ) : Type 0 where
   pub its-outputs : Read image payload slot0 (reading image (length payload) (length slot0)) payload' slot0'
   pub its-number : r ≡ reading image (length payload) (length slot0) .number
   pub its-answer : answer' ≡ readingPlaces (reading image (length payload) (length slot0))
+
+pub record JkSignals (image abcd : List ℕ) (r : ℕ) (abcd' answer' : List ℕ) : Type 0 where
+  pub its-output : Signalled image abcd (signalling image (length abcd)) abcd'
+  pub its-number : r ≡ signalling image (length abcd) .number
+  pub its-answer : answer' ≡ signallingPlaces (signalling image (length abcd))
 
 pub record JkWhy (image : List ℕ) (place r : ℕ) (answer' : List ℕ) : Type 0 where
   pub its-number : r ≡ whyNumber (why image place)
@@ -25,6 +32,12 @@ pub record JkWrite (payload overhead : List ℕ) (check : ℕ) (out : List ℕ) 
   pub its-output : Wrote payload overhead check out (writing payload overhead check (length out)) out'
   pub its-number : r ≡ writing payload overhead check (length out) .number
   pub its-answer : answer' ≡ pairPlaces r (writing payload overhead check (length out) .check)
+
+pub record JkWriteSignalled (payload overhead : List ℕ) (check : ℕ) (xy abcd out : List ℕ) (r : ℕ) (out' answer' : List ℕ) : Type 0 where
+  pub its-output : let w = signalled.writing payload overhead check xy abcd (length out) in
+      signalled.Wrote payload overhead check xy abcd out w out'
+  pub its-number : r ≡ signalled.writing payload overhead check xy abcd (length out) .number
+  pub its-answer : answer' ≡ pairPlaces r (signalled.writing payload overhead check xy abcd (length out) .check)
 
 pub record JkStart (state' : List ℕ) : Type 0 where
   pub its-state : state' ≡ octetsOf startState

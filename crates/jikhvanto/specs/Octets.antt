@@ -12,6 +12,7 @@ use Rattle.exchange.specs.Machine.{kindOf, hosted}
 use Rattle.exchange.specs.declared.State.{State}
 use Rattle.exchange.specs.declared.Answered.{Answered}
 use Rattle.read.specs.declared.Reading.{Reading}
+use Rattle.signals.specs.declared.Signalling.{Signalling}
 
 -- the 32 octets of a map
 unfoldable pub mapAt : ℕ → List ℕ → List ℕ
@@ -55,6 +56,12 @@ readingPlaces r =
     answerOf
     (r .number ∷ r .place ∷ r .start ∷ r .whole ∷ r .used ∷ r .lost
     ∷ r .words ∷ r .compared ∷ r .errored ∷ r .farend ∷ r .wordbits ∷ [])
+
+unfoldable pub signallingPlaces : Signalling → List ℕ
+signallingPlaces r =
+    answerOf
+    (r .number ∷ r .multiframes ∷ r .first ∷ r .losses ∷ boolByte (r .held)
+    ∷ r .x0 ∷ r .x1 ∷ r .x2 ∷ r .y ∷ [])
 
 -- what is said of a place
 unfoldable pub whyPlaces : Why → List ℕ

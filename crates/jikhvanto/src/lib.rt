@@ -7,12 +7,14 @@ ghost use lib.Dec.{eqb};
 ghost use Rattle.align.specs.Why.{whyNumber};
 ghost use Rattle.exchange.specs.Machine.{kindOf};
 ghost use Rattle.jikhvanto.specs.Octets.{mapAt, stateOf, octetsOf, stored, readingPlaces, whyPlaces};
-ghost use Rattle.jikhvanto.specs.Octets.{answerOf, pairPlaces};
-ghost use Rattle.jikhvanto.specs.Calls.{JkRead, JkWhy, JkWrite, JkStart, JkHost, JkKey, JkBoundary, JkMap};
+ghost use Rattle.jikhvanto.specs.Octets.{signallingPlaces, answerOf, pairPlaces};
+ghost use Rattle.jikhvanto.specs.Calls.{JkRead, JkSignals, JkWhy, JkWrite, JkWriteSignalled};
+ghost use Rattle.jikhvanto.specs.Calls.{JkStart, JkHost, JkKey, JkBoundary, JkMap};
 use align::Why;
 use exchange::Answered;
 use exchange::State;
 use read::Reading;
+use signals::Signalling;
 
 // a map, from 32 octets to 32 others
 fn copy(from: &[u8], to: &mut [u8])
@@ -108,6 +110,22 @@ fn give_reading(r: Reading, answer: &mut [u64; 16])
     answer[10] = r.wordbits as u64;
 }
 
+// a reading of signalling, in its places
+fn give_signalling(r: Signalling, answer: &mut [u64; 16])
+    ensures { λ _. ⌜ now (answer .exit) ≡ signallingPlaces r ⌝ }
+{
+    *answer = [0; 16];
+    answer[0] = r.number;
+    answer[1] = r.multiframes as u64;
+    answer[2] = r.first as u64;
+    answer[3] = r.losses as u64;
+    answer[4] = r.held as u64;
+    answer[5] = r.x0 as u64;
+    answer[6] = r.x1 as u64;
+    answer[7] = r.x2 as u64;
+    answer[8] = r.y as u64;
+}
+
 // four numbers to places 0 to 3, and the first of them
 fn give_four(a: u64, b: u64, c: u64, d: u64, answer: &mut [u64; 16]) -> u64
     ensures { λ r. ⌜ (r ≡ a) × (now (answer .exit) ≡ answerOf (a ∷ b ∷ c ∷ d ∷ [])) ⌝ }
@@ -157,6 +175,16 @@ pub extern "C" fn jk_read(
     r.number
 }
 
+// the signalling of an image is read
+#[no_mangle]
+pub extern "C" fn jk_signals(image: &[u8], abcd: &mut [u8], answer: &mut [u64; 16]) -> u64
+    ensures { λ r. ⌜ JkSignals (now (image .entry)) (now (abcd .entry)) r (now (abcd .exit)) (now (answer .exit)) ⌝ }
+{
+    let r = signals::signals(image, abcd);
+    give_signalling(r, answer);
+    r.number
+}
+
 // a place of an image is asked about
 #[no_mangle]
 pub extern "C" fn jk_why(image: &[u8], place: u64, answer: &mut [u64; 16]) -> u64
@@ -178,6 +206,25 @@ pub extern "C" fn jk_write(
         r (now (out .exit)) (now (answer .exit)) ⌝ }
 {
     let w = write::write(payload, overhead, check, out);
+    give_pair(w.number, w.check, answer);
+    w.number
+}
+
+// multiframes are written with signalling
+#[no_mangle]
+pub extern "C" fn jk_write_signalled(
+    payload: &[u8],
+    overhead: &[u8],
+    check: u64,
+    xy: &[u8],
+    abcd: &[u8],
+    out: &mut [u8],
+    answer: &mut [u64; 16],
+) -> u64
+    ensures { λ r. ⌜ JkWriteSignalled (now (payload .entry)) (now (overhead .entry)) check
+        (now (xy .entry)) (now (abcd .entry)) (now (out .entry)) r (now (out .exit)) (now (answer .exit)) ⌝ }
+{
+    let w = signalled::write_signalled(payload, overhead, check, xy, abcd, out);
     give_pair(w.number, w.check, answer);
     w.number
 }
