@@ -10,27 +10,32 @@ use program::print;
 use program::print_number;
 use program::text::limited;
 use program::text::write_line;
+use signals::Signalling;
 ghost use mathlib.Core.Path.{_≡_};
 ghost use lib.ListN.{length};
 
 // The steps that call, by their lines in `given::STEPS`.
-const READ: usize = 11;
+const READ: usize = 15;
 
-const WRITE: usize = 12;
+const WRITE: usize = 16;
 
-const ROW: usize = 13;
+const ROW: usize = 17;
 
-const START: usize = 14;
+const START: usize = 18;
 
-const HOST: usize = 15;
+const HOST: usize = 19;
 
-const KEY: usize = 16;
+const KEY: usize = 20;
 
-const BOUNDARY: usize = 17;
+const BOUNDARY: usize = 21;
 
-const MAP: usize = 18;
+const MAP: usize = 22;
 
-const WHY: usize = 19;
+const WHY: usize = 23;
+
+const SIGNALS: usize = 24;
+
+const WRITE_SIGNALLED: usize = 25;
 
 // what every octet of an output holds before a call
 const BEFORE: u8 = 170;
@@ -111,6 +116,36 @@ fn why(label: &[u8], image: [u8; 8193], bench: Bench, place: u64) {
     why_in(label, &image[from..to], place);
 }
 
+// what a reading of signalling answers, and the digest of its output
+fn show_signals(label: &[u8], s: Signalling, abcd: &[u8]) {
+    print(label);
+    print_number(b": ", s.number);
+    print_number(b" multiframes ", s.multiframes as u64);
+    print_number(b" first ", s.first as u64);
+    print_number(b" losses ", s.losses as u64);
+    print_number(b" held ", s.held as u64);
+    print_number(b" x0 ", s.x0 as u64);
+    print_number(b" x1 ", s.x1 as u64);
+    print_number(b" x2 ", s.x2 as u64);
+    print_number(b" y ", s.y as u64);
+    digest(b" abcd ", abcd);
+    print(b"\n");
+}
+
+fn signals_into(label: &[u8], image: &[u8], abcd: &mut [u8]) {
+    let s = signals::signals(image, abcd);
+    show_signals(label, s, abcd);
+}
+
+// an output of so many octets
+fn signals(label: &[u8], image: [u8; 8193], bench: Bench, room: u64) {
+    let to = limited(bench.to, 8193);
+    let from = limited(bench.from, to);
+    let r = limited(room, 512);
+    let mut abcd = [BEFORE; 512];
+    signals_into(label, &image[from..to], &mut abcd[0..r]);
+}
+
 // what a write answers, and the digest of its output
 fn show_write(label: &[u8], w: write::Written, out: &[u8]) {
     print(label);
@@ -136,6 +171,45 @@ fn write(label: &[u8], payload: [u8; 8432], overhead: [u8; 136], row: &[u64; 8])
         &payload[0..p],
         &overhead[0..h],
         row[2],
+        &mut out[0..e],
+    );
+}
+
+fn write_signalled_into(
+    label: &[u8],
+    payload: &[u8],
+    overhead: &[u8],
+    check: u64,
+    xy: &[u8],
+    abcd: &[u8],
+    out: &mut [u8],
+) {
+    let w = signalled::write_signalled(payload, overhead, check, xy, abcd, out);
+    show_write(label, w, out);
+}
+
+// so many octets of a payload and of an overhead, a check, so many octets of XY and of ABCD, and an output of so many
+fn write_signalled(
+    label: &[u8],
+    payload: [u8; 8432],
+    overhead: [u8; 136],
+    xy: [u8; 17],
+    abcd: [u8; 510],
+    row: &[u64; 8],
+) {
+    let p = limited(row[0], 8432);
+    let h = limited(row[1], 136);
+    let x = limited(row[3], 17);
+    let a = limited(row[4], 510);
+    let e = limited(row[5], 8704);
+    let mut out = [BEFORE; 8704];
+    write_signalled_into(
+        label,
+        &payload[0..p],
+        &overhead[0..h],
+        row[2],
+        &xy[0..x],
+        &abcd[0..a],
         &mut out[0..e],
     );
 }
@@ -217,6 +291,8 @@ pub fn call(
 ) -> State {
     let payload = bench.payload;
     let overhead = bench.overhead;
+    let xy = bench.xy;
+    let abcd = bench.abcd;
     let image = bench.image;
     match k {
         0..=ROOM => state,
@@ -242,6 +318,14 @@ pub fn call(
         }
         WHY => {
             why(label, image, bench, row[0]);
+            state
+        }
+        SIGNALS => {
+            signals(label, image, bench, row[0]);
+            state
+        }
+        WRITE_SIGNALLED => {
+            write_signalled(label, payload, overhead, xy, abcd, row);
             state
         }
         _ => {

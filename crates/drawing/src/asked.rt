@@ -62,7 +62,7 @@ pub fn outlined(pen: Pen, r: Reading, asked: Asked) -> Pen
         return pen;
     }
     let x = 146 + 100 * (f % 8);
-    let y = 290 + 68 * (f / 16) + 28 * (f / 8 % 2);
+    let y = 346 + 68 * (f / 16) + 28 * (f / 8 % 2);
     pen.fill(
         b"<rect class='holds' x='%' y='%' width='100' height='28'><title>place %</title></rect>\n",
         &[x, y, place],

@@ -13,7 +13,7 @@ path{stroke:#1f2a33;stroke-width:1.4}
 .wrong rect,.right0 .word rect,.right0 .signal rect{fill:#9c3500;stroke:#9c3500}.cross{display:none}
 .wrong text,.right0 .word text,.right0 .signal text{fill:#fff;font-weight:bold}.right0 .cross{display:inline}
 .many{font-size:9px}.asked path{stroke:#1d5f8a;stroke-width:2.4}.asked text{fill:#1d5f8a;font-weight:bold}
-.holds{fill:none;stroke:#1d5f8a;stroke-width:2.4}
+.holds{fill:none;stroke:#1d5f8a;stroke-width:2.4}.heard rect{fill:#dbeee3}
 .clean rect{stroke:#2f6f86}.clean text{fill:#2f6f86}.used0 rect,.dashed rect{stroke-dasharray:3 2}
 </style>
 ",
@@ -23,9 +23,9 @@ path{stroke:#1f2a33;stroke-width:1.4}
 // the heads stand over the rows, and what each cell means from y on
 pub fn legend(pen: Pen, y: usize) -> Pen {
     pen.fill(
-        b"<text x='24' y='254'><tspan class='name'>Slot 0, a block a row.</tspan> \
+        b"<text x='24' y='310'><tspan class='name'>Slot 0, a block a row.</tspan> \
 A block's own check is carried in C1 to C4 of the next row.</text>
-<g class='cell' transform='translate(148 284)'>
+<g class='cell' transform='translate(148 340)'>
 <text x='12'>C1</text><text x='60'>word</text><text x='112'>S</text><text x='160'>1 A Sa4-8</text>
 <text x='212'>C2</text><text x='260'>word</text><text x='312'>S</text><text x='360'>1 A Sa4-8</text>
 <text x='412'>C3</text><text x='460'>word</text><text x='512'>S/E</text><text x='560'>1 A Sa4-8</text>
@@ -42,6 +42,8 @@ A block's own check is carried in C1 to C4 of the next row.</text>
 <g class='cell bits e1'><rect width='84' height='24'/><text x='42' y='16'>E1</text></g></g>
 <g transform='translate(274 30)'><text x='92' y='16'>far end: errored</text>
 <g class='cell bits e0'><rect width='84' height='24'/><text x='42' y='16'>E0</text></g></g>
+<g transform='translate(274 60)'><text x='92' y='16'>a signalling multiframe</text>
+<g class='cell heard'><rect width='84' height='24'/><text x='42' y='16'>3</text></g></g>
 <g transform='translate(578 0)'><text x='92' y='16'>the alignment word</text>
 <g class='cell bits word'><rect width='84' height='24'/><text x='42' y='16'>0011011</text></g></g>
 <g transform='translate(578 30)'><text x='92' y='16'>a word, 2 bits wrong</text>

@@ -6,12 +6,14 @@ mod legend;
 mod multiframes;
 mod report;
 mod ruler;
+mod slot16;
 
 pub use asked::Asked;
 pub use asked::said;
 pub use crossing::map;
 use pen::Pen;
 use read::Reading;
+use signals::Signalling;
 ghost use Prim.Native.Nat.{_≤_};
 ghost use lib.ListN.{length};
 ghost use Rattle.drawing.specs.Shown.{Shown};
@@ -28,23 +30,31 @@ fn drawn(r: Reading) -> usize
 }
 
 // all but the multiframes
-fn page_of(pen: Pen, octets: usize, r: Reading, asked: Asked) -> Pen
+fn page_of(pen: Pen, octets: usize, r: Reading, s: Signalling, asked: Asked) -> Pen
     requires { ⌜ Shown octets r ⌝ }
 {
-    let below = 316 + 68 * drawn(r);
+    let below = 372 + 68 * drawn(r);
     let pen = legend::style(pen.page(1080, below + 108)).fill(
         b"<text class='title' x='24' y='40'>A line of % octets</text>\n",
         &[octets],
     );
     let pen = ruler::ruler(report::report(pen, r), octets, r, asked);
+    let pen = slot16::slot16(pen, octets, r.start, s);
     legend::legend(pen, below)
 }
 
-// a line, with what `read` read of it, and with a place that is asked about
-pub fn line(fd: i32, image: &[u8], r: Reading, slot0: &[u8; 256], asked: Asked) -> bool
+// a line, with what `read` and `signals` read of it, and with a place that is asked about
+pub fn line(
+    fd: i32,
+    image: &[u8],
+    r: Reading,
+    slot0: &[u8; 256],
+    s: Signalling,
+    asked: Asked,
+) -> bool
     requires { ⌜ Shown (length (now image)) r ⌝ }
 {
-    let pen = page_of(Pen::new(fd), image.len(), r, asked);
+    let pen = page_of(Pen::new(fd), image.len(), r, s, asked);
     let pen = multiframes::multiframes(pen, image, slot0, r);
     let pen = asked::outlined(pen, r, asked);
     let pen = multiframes::loss(pen, r.used, r.lost).text(b"</svg>\n");

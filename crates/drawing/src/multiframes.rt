@@ -53,7 +53,7 @@ fn opened(pen: Pen, m: usize) -> Pen
     pen.fill(
         b"<g transform='translate(148 %)'><text class='name' x='-124' y='16'>multiframe %</text>
 <text class='note' x='-124' y='36'>frames % to %</text>\n",
-        &[292 + 68 * m, m, 16 * m, 16 * m + 15],
+        &[348 + 68 * m, m, 16 * m, 16 * m + 15],
     )
 }
 

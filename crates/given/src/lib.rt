@@ -1,18 +1,22 @@
-// What the cases are made of: a payload, an overhead, and a line with its damage.
+// What the cases are made of: a payload, an overhead, signalling, and a line with its damage.
 use program::text::limited;
 ghost use Prim.Native.Nat.{_<_, _≤_};
 
 // The steps of a case, by the lines of this table. Up to ROOM they make something, here; those behind it call.
-pub const STEPS: [u8; 112] = *b"\
+pub const STEPS: [u8; 161] = *b"\
     payload\n\
     overhead\n\
     alike\n\
+    xy\n\
+    abcd\n\
     fill\n\
     line\n\
+    signalled\n\
     front\n\
     hit\n\
     word\n\
     signal\n\
+    slot16\n\
     part\n\
     room\n\
     read\n\
@@ -23,7 +27,9 @@ pub const STEPS: [u8; 112] = *b"\
     key\n\
     boundary\n\
     map\n\
-    why\n";
+    why\n\
+    signals\n\
+    write-signalled\n";
 
 const PAYLOAD: usize = 0;
 
@@ -31,29 +37,39 @@ const OVERHEAD: usize = 1;
 
 const ALIKE: usize = 2;
 
-const FILL: usize = 3;
+const XY: usize = 3;
 
-const LINE: usize = 4;
+const ABCD: usize = 4;
 
-const FRONT: usize = 5;
+const FILL: usize = 5;
 
-const HIT: usize = 6;
+const LINE: usize = 6;
 
-const WORD: usize = 7;
+const SIGNALLED: usize = 7;
 
-const SIGNAL: usize = 8;
+const FRONT: usize = 8;
 
-const PART: usize = 9;
+const HIT: usize = 9;
 
-pub const ROOM: usize = 10;
+const WORD: usize = 10;
 
-pub const UNKNOWN: usize = 20;
+const SIGNAL: usize = 11;
 
-// A payload and an overhead, of one multiframe more than a call takes; an image; which of its octets are read, and into
-// how much room.
+const SLOT16: usize = 12;
+
+const PART: usize = 13;
+
+pub const ROOM: usize = 14;
+
+pub const UNKNOWN: usize = 26;
+
+// A payload, an overhead, XY and ABCD, of one multiframe more than a call takes; an image; which of its octets are read,
+// and into how much room.
 pub struct Bench {
     pub payload: [u8; 8432],
     pub overhead: [u8; 136],
+    pub xy: [u8; 17],
+    pub abcd: [u8; 510],
     pub image: [u8; 8193],
     pub from: u64,
     pub to: u64,
@@ -78,13 +94,34 @@ fn overhead() -> [u8; 136] {
     octets
 }
 
+fn xy() -> [u8; 17] {
+    let mut octets = [0; 17];
+    for m in 0..17 {
+        octets[m] = ((5 * m + 11) % 16) as u8;
+    }
+    octets
+}
+
+// No channel has 0000.
+fn abcd() -> [u8; 510] {
+    let mut octets = [0; 510];
+    for i in 0..510 {
+        octets[i] = (1 + (7 * i + 3 * (i / 30)) % 15) as u8;
+    }
+    octets
+}
+
 // no image, and room for all that one can hold
 pub fn new() -> Bench {
     let payload = payload();
     let overhead = overhead();
+    let xy = xy();
+    let abcd = abcd();
     Bench {
         payload: payload,
         overhead: overhead,
+        xy: xy,
+        abcd: abcd,
         image: [0; 8193],
         from: 0,
         to: 0,
@@ -123,6 +160,44 @@ fn line(payload: [u8; 8432], overhead: [u8; 136], n: usize) -> [u8; 8193]
     let e = 512 * n;
     let mut octets = [0; 8193];
     write::write(&payload[0..p], &overhead[0..h], 5, &mut octets[0..e]);
+    octets
+}
+
+// the same with signalling
+fn signalled_line(
+    payload: [u8; 8432],
+    overhead: [u8; 136],
+    xy: [u8; 17],
+    abcd: [u8; 510],
+    n: usize,
+) -> [u8; 8193]
+    requires { ⌜ n ≤ 16 ⌝ }
+{
+    let p = 496 * n;
+    let h = 8 * n;
+    let a = 30 * n;
+    let e = 512 * n;
+    let mut octets = [0; 8193];
+    signalled::write_signalled(
+        &payload[0..p],
+        &overhead[0..h],
+        5,
+        &xy[0..n],
+        &abcd[0..a],
+        &mut octets[0..e],
+    );
+    octets
+}
+
+// an image in which slot 16 of the frames behind the first number of a row is that first number
+fn with_slot16(image: [u8; 8193], row: &[u64; 8], n: usize) -> [u8; 8193]
+    requires { ⌜ n ≤ 8 ⌝ }
+{
+    let mut octets = image;
+    for i in 1..n {
+        let f = limited(row[i], 256);
+        set(&mut octets, (32 * f + 16) as u64, low(row[0]));
+    }
     octets
 }
 
@@ -188,6 +263,8 @@ impl Bench {
         let mut b = self;
         let mut payload = self.payload;
         let mut overhead = self.overhead;
+        let mut xy = self.xy;
+        let mut abcd = self.abcd;
         let image = self.image;
         let from = self.from;
         let to = self.to;
@@ -206,10 +283,25 @@ impl Bench {
                 b.payload = [low(row[0]); 8432];
                 b
             }
+            XY => {
+                put(&mut xy, row, n);
+                b.xy = xy;
+                b
+            }
+            ABCD => {
+                put(&mut abcd, row, n);
+                b.abcd = abcd;
+                b
+            }
             FILL => self.imaged([low(row[0]); 8193], 0, row[1]),
             LINE => {
                 let n = limited(row[0], 16);
                 self.imaged(line(payload, overhead, n), 0, (512 * n) as u64)
+            }
+            SIGNALLED => {
+                let n = limited(row[0], 16);
+                let octets = signalled_line(payload, overhead, xy, abcd, n);
+                self.imaged(octets, 0, (512 * n) as u64)
             }
             FRONT => {
                 let b = limited(row[0], 63);
@@ -217,6 +309,7 @@ impl Bench {
                 self.imaged(front(image, b), from, e as u64)
             }
             HIT | WORD | SIGNAL => self.imaged(hit(image, k, row, n), from, to),
+            SLOT16 => self.imaged(with_slot16(image, row, n), from, to),
             PART => self.imaged(image, row[0], row[1]),
             ROOM => {
                 b.payload_room = row[0];

@@ -15,9 +15,11 @@ fn picture(image: &[u8], asked: Asked) {
         program::name_place(b"picture", r.number, r.place);
         return;
     }
+    let mut abcd = [0u8; 450];
+    let s = signals::signals(image, &mut abcd);
     program::written(
         b"picture",
-        drawing::line(STDOUT_FILENO, image, r, &slot0, asked),
+        drawing::line(STDOUT_FILENO, image, r, &slot0, s, asked),
     );
 }
 
@@ -37,17 +39,10 @@ fn marked(image: &[u8], place: u64) {
     );
 }
 
-// the first argument is `--why`
-fn is_asked() -> bool {
-    let mut word = io::buffer();
-    let n = os::arg(1, &mut word);
-    check::same(&word[..n], b"--why")
-}
-
 // No line over 8,192 octets is read, so one octet more is enough to know that it is longer.
 fn main() {
     let mut image = [0u8; 8193];
-    if is_asked() {
+    if program::is_first(b"--why") {
         let Spelt::Number(place) = program::place(b"picture", 2) else {
             return;
         };

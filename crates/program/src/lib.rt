@@ -22,6 +22,11 @@ pub fn print_number(text: &[u8], n: u64) -> bool {
     print(text) & io::print_decimal(STDOUT_FILENO, n)
 }
 
+// a word and a number, on a line of its own
+pub fn print_line(word: &[u8], n: usize) -> bool {
+    print_number(word, n as u64) & print(b"\n")
+}
+
 // a line on standard error: the program, and what it has to say
 pub fn say(program: &[u8], what: &[u8]) {
     io::write_all(STDERR_FILENO, program);
@@ -77,6 +82,13 @@ pub fn place(program: &[u8], at: usize) -> Spelt {
         return Spelt::Nothing;
     }
     Spelt::Number(row[0])
+}
+
+// the first argument is this option
+pub fn is_first(option: &[u8]) -> bool {
+    let mut word = io::buffer();
+    let n = os::arg(1, &mut word);
+    check::same(&word[..n], option)
 }
 
 // the end of a program's output, which was written or not

@@ -9,7 +9,7 @@ pub fn print_refusal(fd: i32, number: u64) -> bool {
         the line is over 8,192 octets; sixteen multiframes are the most that is read\n\
         no frames are found: no place with 16,384 bits to the line's end has basic alignment\n\
         an output has no room for what is to be written\n\
-        the payload is not 1 to 16 multiframes of 496 octets (504 with their overhead)\n\
+        the payload is not 1 to 16 multiframes of 496 octets (504 with their overhead, 535 with signalling too)\n\
         the overhead is not 8 octets a multiframe, or one has a bit that must be 0\n\
         the check that is carried in is over 15\n\
         a host record is four octets: kind, output slot, input slot, host\n\
@@ -19,7 +19,8 @@ pub fn print_refusal(fd: i32, number: u64) -> bool {
         nothing is staged; commit and drop need a staged map\n\
         the key's position is 0 (off) or 1 (on)\n\
         fewer than 16,384 bits are left from that place to the line's end\n\
-        basic alignment is found, but no pair of multiframe signals with it; is the sender's CRC-4 on?",
+        basic alignment is found, but no pair of multiframe signals with it; is the sender's CRC-4 on?\n\
+        XY is not an octet from 0 to 15 a multiframe, or ABCD is not thirty from 1 to 15",
         number,
     )
 }

@@ -1,30 +1,25 @@
 // Reads a line, from the file that the argument names or from standard input, and prints its report.
 use program::print;
-use program::print_number;
-
-// a word and a number, on a line of its own
-fn line(word: &[u8], n: usize) -> bool {
-    print_number(word, n as u64) & print(b"\n")
-}
+use program::print_line;
 
 fn print_lost(frame: usize) -> bool {
     if frame == 0 {
         return print(b"lost no\n");
     }
-    line(b"lost ", frame)
+    print_line(b"lost ", frame)
 }
 
 fn print_report(r: read::Reading) -> bool {
-    line(b"place ", r.place)
-        & line(b"start ", r.start)
-        & line(b"whole ", r.whole)
-        & line(b"used ", r.used)
+    print_line(b"place ", r.place)
+        & print_line(b"start ", r.start)
+        & print_line(b"whole ", r.whole)
+        & print_line(b"used ", r.used)
         & print_lost(r.lost)
-        & line(b"words ", r.words)
-        & line(b"wordbits ", r.wordbits)
-        & line(b"compared ", r.compared)
-        & line(b"errored ", r.errored)
-        & line(b"farend ", r.farend)
+        & print_line(b"words ", r.words)
+        & print_line(b"wordbits ", r.wordbits)
+        & print_line(b"compared ", r.compared)
+        & print_line(b"errored ", r.errored)
+        & print_line(b"farend ", r.farend)
 }
 
 // the report, or the refusal: its number is printed, and said in words on standard error

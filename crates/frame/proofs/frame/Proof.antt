@@ -1,4 +1,4 @@
--- `frame` is safe: the parts that it lends and writes out lie in the input and in the line.
+-- `frame` is safe: the parts that it lends lie in the input and in the line.
 use native.Mathlib.Omega.{arith}
 use borrow.Author.Needs.{needs}
 use lib.ListN.{length-take}
@@ -8,10 +8,8 @@ use Rattle.frame.proofs.frame.Tie as tie
 pub frame-spec : {M : Type 1} → statement M
 frame-spec =
     tie.close
-    (tie.spec (search needs) (search needs) (search needs) (search needs) (search needs)
+    (tie.spec (search needs) (search needs) (search needs) (search needs) (search needs) (search needs)
     (λ c. simp length-take (omega arith))
-    (search needs) (search needs) (search needs) (search needs) (search needs) (search needs) (search needs)
-    (search needs)
-    (search needs) (search needs) (search needs)
+    (search needs) (search needs) (search needs) (search needs) (search needs) (search needs)
     (λ c. simp length-take (omega arith))
-    (search needs) (search needs) (search needs))
+    (search needs) (search needs))
