@@ -1,16 +1,17 @@
 /*
- * Jikhvanto: E1 multiframes read and written, and the slot map with its key.
+ * Jikhvanto: E1 multiframes and their signalling read and written, and the slot map with its key.
  *
  * Every call but jk_start returns its number: JK_ACCEPTED, which is 0, or that of its refusal. Where several refusals
  * apply, it is the first in the call's list below. An answer has JK_ANSWER places: the number, the values, then zeros.
  * A refused call gives zeros in every other place of its answer and changes nothing else: no octet of an output, and no
- * octet of a state. There is one exception: JK_BASIC_ONLY has a value, JK_PLACE, and zeros behind it. In an accepted
- * call the octets of an output past those needed keep what they held.
+ * octet of a state. There is one exception: jk_read's JK_BASIC_ONLY has a value, JK_PLACE, and zeros behind it. In an
+ * accepted call the octets of an output past those needed keep what they held.
  *
  * All this is proved of the library's source. It rests on what no proof of it can see, and you must keep:
  *   - every pointer is valid for its length, and none is NULL, even where its length is 0;
  *   - a buffer that a call writes overlaps no other buffer of that call;
- *   - a call finds its stack: jk_read and jk_write take under 5,000 octets of it, the others under 500.
+ *   - a call finds its stack: jk_read, jk_signals, jk_write and jk_write_signalled take under 5,000 octets of it, the
+ *     others under 500.
  * The library holds nothing between calls, so calls on buffers of their own may run side by side.
  *
  * From one version to the next no number and no place of an answer changes its meaning, but for what is put right and
@@ -29,9 +30,9 @@
 #include <stdint.h>
 
 #define JK_VERSION_MAJOR 0
-#define JK_VERSION_MINOR 5
+#define JK_VERSION_MINOR 6
 #define JK_VERSION_PATCH 0
-#define JK_VERSION "0.5.0"
+#define JK_VERSION "0.6.0"
 
 #define JK_ANSWER 16 /* places of an answer */
 #define JK_STATE 99  /* octets of a state */
@@ -53,7 +54,8 @@ enum jk_number {
     JK_NOTHING_STAGED = 12, /* kind 2 or 4 with nothing staged */
     JK_BAD_POSITION = 13,   /* the key's position isn't 0 or 1 */
     JK_LATE_PLACE = 14,     /* fewer than 16,384 bits from the place to the end of the image */
-    JK_BASIC_ONLY = 15      /* a place with room has basic alignment, but none stands; JK_PLACE is the first */
+    JK_BASIC_ONLY = 15,     /* a place with room has basic alignment, but none stands; jk_read has the first */
+    JK_BAD_SIGNALS = 16     /* XY isn't n octets of 0 to 15, or ABCD isn't 30n octets of 1 to 15 */
 };
 
 /* The places of an answer; the number is in place 0 of each. */
@@ -72,12 +74,22 @@ enum jk_place {
     JK_FAREND = 9,    /* E bits that are 0 in the multiframes used */
     JK_WORDBITS = 10, /* wrong bits of the alignment words in the multiframes used, 1 to 7 for each wrong word */
 
+    /* jk_signals */
+    JK_MULTIFRAMES = 1, /* signalling multiframes read */
+    JK_FIRST = 2,       /* the frame, numbered from the start, at which they are first aligned with; 0 for none */
+    JK_LOSSES = 3,      /* how often alignment with them is lost */
+    JK_HELD = 4,        /* 1 where it is held after the last frame used, else 0 */
+    JK_X0 = 5,          /* these four of the last one read; X 1 and Y 0 where none is, or alignment is not held */
+    JK_X1 = 6,
+    JK_X2 = 7,
+    JK_Y = 8,
+
     /* jk_why */
     JK_CONDITION = 1, /* what is said of the place, of enum jk_condition */
     JK_K = 2,         /* JK_STANDS: the least k, 0 to 18; the first multiframe known to begin starts at the place + 512k */
     JK_BIT = 3,       /* JK_FIRST_WORD, JK_SECOND_WORD: the bit of the image that is the first wrong one of the word */
 
-    /* jk_write */
+    /* jk_write, jk_write_signalled */
     JK_CHECK = 1,     /* the check of the last block, for the next call */
 
     /* jk_host */
@@ -117,6 +129,17 @@ uint64_t jk_read(const uint8_t *image, size_t image_octets,
                  uint64_t answer[JK_ANSWER]);
 
 /*
+ * Reads the signalling of thirty channels in slot 16 of the multiframes that jk_read uses of the same image.
+ * abcd takes ABCD of channels 1 to 30 as numbers from 0 to 15, A worth 8: 30 octets a signalling multiframe read, and
+ * 450 always do.
+ * answer: JK_MULTIFRAMES to JK_Y
+ * Refused: 1 JK_SHORT_IMAGE, 2 JK_LONG_IMAGE, 3 JK_NO_PLACE, 15 JK_BASIC_ONLY, 4 JK_SHORT_OUTPUT
+ */
+uint64_t jk_signals(const uint8_t *image, size_t image_octets,
+                    uint8_t *abcd, size_t abcd_octets,
+                    uint64_t answer[JK_ANSWER]);
+
+/*
  * Says of a place of an image, a bit counted from 0, that it stands, or why it does not. Any number may be asked about.
  * answer: JK_CONDITION, JK_K, JK_BIT; a value that the condition does not name is 0
  * Refused: 1 JK_SHORT_IMAGE, 2 JK_LONG_IMAGE, 14 JK_LATE_PLACE
@@ -135,6 +158,21 @@ uint64_t jk_write(const uint8_t *payload, size_t payload_octets,
                   uint64_t check,
                   uint8_t *out, size_t out_octets,
                   uint64_t answer[JK_ANSWER]);
+
+/*
+ * Writes as jk_write does, but slot 16 from n octets of xy, for frame 0 of each multiframe, and 30n of abcd, for
+ * channels 1 to 30 in its frames 1 to 15. What the payload has in slot 16 goes nowhere.
+ * An octet of xy is X0 worth 8, Y 4, X1 2 and X2 1; one of abcd is a channel's ABCD, A worth 8, which may not be 0.
+ * answer: JK_CHECK
+ * Refused: 5 JK_BAD_PAYLOAD, 6 JK_BAD_OVERHEAD, 7 JK_BAD_CHECK, 16 JK_BAD_SIGNALS, 4 JK_SHORT_OUTPUT
+ */
+uint64_t jk_write_signalled(const uint8_t *payload, size_t payload_octets,
+                            const uint8_t *overhead, size_t overhead_octets,
+                            uint64_t check,
+                            const uint8_t *xy, size_t xy_octets,
+                            const uint8_t *abcd, size_t abcd_octets,
+                            uint8_t *out, size_t out_octets,
+                            uint64_t answer[JK_ANSWER]);
 
 /*
  * The state of the map and the key, in octets that you lend: the flag; whether a map is staged; whether one waits; then

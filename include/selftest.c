@@ -133,6 +133,93 @@ static void reading(void)
     EXPECT(reads(far_4) && answer[JK_ERRORED] == 3 && answer[JK_FAREND] == 4);
 }
 
+/* XY and ABCD of N multiframes, with one octet more. */
+static uint8_t xy[N + 1], abcd[N * 30 + 1];
+
+/* Whether this is heard of the line, to the last place of the answer, with so many octets of ABCD. */
+static int hears(const uint8_t *line, const uint64_t expected[JK_ANSWER], size_t needed)
+{
+    memset(answer, BEFORE, sizeof answer);
+    memset(back, BEFORE, sizeof back);
+    return jk_signals(line, N * 512, back, needed + 1, answer) == JK_ACCEPTED
+        && !memcmp(answer, expected, sizeof answer) && untouched(back + needed, sizeof back - needed);
+}
+
+static void unsignalled(uint8_t *line)
+{
+    memset(line, BEFORE, N * 512 + 1);
+    REFUSED(jk_write_signalled(payload, 495, overhead, 7, 16, xy, 0, abcd, 0, line, 0, answer), JK_BAD_PAYLOAD);
+    REFUSED(jk_write_signalled(payload, 496, overhead, 7, 16, xy, 0, abcd, 0, line, 0, answer), JK_BAD_OVERHEAD);
+    REFUSED(jk_write_signalled(payload, 496, overhead, 8, 16, xy, 0, abcd, 0, line, 0, answer), JK_BAD_CHECK);
+    REFUSED(jk_write_signalled(payload, 496, overhead, 8, 0, xy, 2, abcd, 30, line, 0, answer), JK_BAD_SIGNALS);
+    REFUSED(jk_write_signalled(payload, 496, overhead, 8, 0, xy, 1, abcd, 29, line, 0, answer), JK_BAD_SIGNALS);
+    REFUSED(jk_write_signalled(payload, 496, overhead, 8, 0, xy, 1, abcd, 30, line, 511, answer), JK_SHORT_OUTPUT);
+    xy[0] = 16;
+    REFUSED(jk_write_signalled(payload, 496, overhead, 8, 0, xy, 1, abcd, 30, line, 512, answer), JK_BAD_SIGNALS);
+    xy[0] = 15;
+    abcd[29] = 0;
+    REFUSED(jk_write_signalled(payload, 496, overhead, 8, 0, xy, 1, abcd, 30, line, 512, answer), JK_BAD_SIGNALS);
+    abcd[29] = 15;
+    EXPECT(untouched(line, N * 512 + 1));
+}
+
+static void unheard(const uint8_t *line)
+{
+    static const uint8_t zeros[2048] = {0};
+    static uint8_t basic[N * 512];
+
+    memset(back, BEFORE, sizeof back);
+    REFUSED(jk_signals(line, 2047, back, 450, answer), JK_SHORT_IMAGE);
+    REFUSED(jk_signals(image, 8193, back, 450, answer), JK_LONG_IMAGE);
+    REFUSED(jk_signals(zeros, 2048, back, 450, answer), JK_NO_PLACE);
+    memcpy(basic, line, sizeof basic);
+    hit_signals(basic, 0, N);
+    REFUSED(jk_signals(basic, sizeof basic, back, 0, answer), JK_BASIC_ONLY);
+    REFUSED(jk_signals(line, 2048, back, 89, answer), JK_SHORT_OUTPUT);
+    EXPECT(untouched(back, sizeof back));
+}
+
+static void signalling(void)
+{
+    static const uint64_t clean[JK_ANSWER] = {JK_ACCEPTED, 3, 16, 0, 1, 0, 1, 0, 1};
+    static const uint64_t wrong[JK_ANSWER] = {JK_ACCEPTED, 3, 16, 0, 1, 1, 0, 1, 1};
+    static const uint64_t lost[JK_ANSWER] = {JK_ACCEPTED, 2, 16, 1, 0, 1, 1, 1, 0};
+    static const uint64_t late[JK_ANSWER] = {JK_ACCEPTED, 0, 63, 0, 1, 1, 1, 1, 0};
+    static const uint64_t none[JK_ANSWER] = {JK_ACCEPTED, 0, 0, 0, 0, 1, 1, 1, 0};
+    static uint8_t line[N * 512 + 1], plain[N * 512];
+    size_t i;
+
+    for (i = 0; i < sizeof xy; i++)
+        xy[i] = (uint8_t)(15 - 3 * i);
+    for (i = 0; i < sizeof abcd; i++)
+        abcd[i] = (uint8_t)(1 + (i + i / 30) % 15);
+    unsignalled(line);
+
+    /* what is written is the payload with slot 16 replaced, whatever it had there */
+    EXPECT(jk_write_signalled(payload, sizeof payload, overhead, sizeof overhead, 5, xy, N, abcd, N * 30,
+                              line, sizeof line, answer) == JK_ACCEPTED);
+    EXPECT(untouched(line + N * 512, 1) && line[16] == 15 && line[32 + 16] == (abcd[0] << 4 | abcd[15]));
+    memcpy(back, payload, sizeof payload);
+    for (i = 0; i < N * 16; i++)
+        back[31 * i + 15] = line[32 * i + 16];
+    EXPECT(jk_write(back, sizeof payload, overhead, sizeof overhead, 5, plain, sizeof plain, answer) == JK_ACCEPTED);
+    EXPECT(!memcmp(line, plain, sizeof plain));
+
+    unheard(line);
+    EXPECT(line[48 * 32 + 16] == 6 && hears(line, clean, 90) && !memcmp(back, abcd + 30, 90));
+
+    /* the last signal wrong, and the one before too; then the last frame's alone; then none */
+    line[48 * 32 + 16] = 0xDD;
+    EXPECT(hears(line, wrong, 90) && answer[JK_X0] == 1 && answer[JK_X1] == 0 && answer[JK_Y] == 1);
+    line[32 * 32 + 16] = 0xDD;
+    EXPECT(hears(line, lost, 60) && answer[JK_LOSSES] == 1 && answer[JK_HELD] == 0);
+    line[16 * 32 + 16] = 0xDD;
+    line[63 * 32 + 16] = 0x00;
+    EXPECT(hears(line, late, 0) && answer[JK_FIRST] == 63 && answer[JK_MULTIFRAMES] == 0);
+    line[63 * 32 + 16] = 0x10;
+    EXPECT(hears(line, none, 0));
+}
+
 /* Whether this is said of a place of the line's first octets, with zeros behind. */
 static int said(size_t octets, uint64_t place, enum jk_condition condition, uint64_t k, uint64_t bit)
 {
@@ -216,6 +303,7 @@ int main(void)
 {
     writing();
     reading();
+    signalling();
     asking();
     map_and_key();
     if (!failed)

@@ -2,11 +2,13 @@
 #![warn(missing_docs)]
 
 mod refusal;
+mod signalling;
 mod state;
 pub mod sys;
 mod why;
 
 pub use refusal::Refusal;
+pub use signalling::{signals, write_signalled, Signalling};
 pub use state::{kind, State};
 pub use why::{why, Why};
 

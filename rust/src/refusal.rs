@@ -42,6 +42,8 @@ pub enum Refusal {
         /// [`why`](crate::why()) says [`NoPair`](crate::Why::NoPair).
         place: usize,
     },
+    /// XY isn't n octets of 0 to 15, or ABCD isn't 30n octets of 1 to 15.
+    BadSignals,
 }
 
 use Refusal::*;
@@ -65,12 +67,14 @@ impl Refusal {
             BadPosition => 13,
             LatePlace => 14,
             BasicOnly { .. } => 15,
+            BadSignals => 16,
         }
     }
 
     /// The refusal that an answer of the library says, by its number in place
     /// 0 and, with number 15, the value behind it; none where the call is
-    /// accepted.
+    /// accepted. That value is [`jk_read`](crate::sys::jk_read)'s:
+    /// [`jk_signals`](crate::sys::jk_signals) has a 0 there, which is no place.
     ///
     /// # Panics
     ///
@@ -95,6 +99,7 @@ impl Refusal {
             15 => BasicOnly {
                 place: answer[1] as usize,
             },
+            16 => BadSignals,
             number => panic!("a number that the header does not name: {number}"),
         })
     }
@@ -120,6 +125,7 @@ impl fmt::Display for Refusal {
             BasicOnly { place } => {
                 return write!(f, "place {place} has basic alignment, but no place stands");
             }
+            BadSignals => "XY isn't n octets of 0 to 15, or ABCD isn't 30n octets of 1 to 15",
         })
     }
 }

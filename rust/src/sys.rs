@@ -18,6 +18,13 @@ extern "C" {
         slot0_octets: usize,
         answer: *mut [u64; ANSWER],
     ) -> u64;
+    pub fn jk_signals(
+        image: *const u8,
+        image_octets: usize,
+        abcd: *mut u8,
+        abcd_octets: usize,
+        answer: *mut [u64; ANSWER],
+    ) -> u64;
     pub fn jk_why(
         image: *const u8,
         image_octets: usize,
@@ -30,6 +37,20 @@ extern "C" {
         overhead: *const u8,
         overhead_octets: usize,
         check: u64,
+        out: *mut u8,
+        out_octets: usize,
+        answer: *mut [u64; ANSWER],
+    ) -> u64;
+    pub fn jk_write_signalled(
+        payload: *const u8,
+        payload_octets: usize,
+        overhead: *const u8,
+        overhead_octets: usize,
+        check: u64,
+        xy: *const u8,
+        xy_octets: usize,
+        abcd: *const u8,
+        abcd_octets: usize,
         out: *mut u8,
         out_octets: usize,
         answer: *mut [u64; ANSWER],

@@ -1,6 +1,6 @@
 //! Every call, accepted and with each of its refusals.
 
-use jikhvanto::{kind, read, why, write, Refusal, State, Why};
+use jikhvanto::{kind, read, signals, why, write, write_signalled, Refusal, State, Why};
 
 const BEFORE: u8 = 0xAA;
 
@@ -29,6 +29,90 @@ fn a_line_is_read_as_it_was_written() {
         .iter()
         .zip(line(4).chunks(32))
         .all(|(s, f)| *s == f[0]));
+}
+
+/// XY and ABCD of n multiframes.
+fn signalling(n: usize) -> (Vec<u8>, Vec<u8>) {
+    let xy = (0..n).map(|m| (15 - 3 * m % 16) as u8).collect();
+    let abcd = (0..30 * n).map(|i| (1 + (i + i / 30) % 15) as u8).collect();
+    (xy, abcd)
+}
+
+/// Written multiframes with signalling.
+fn signalled_line(n: usize) -> Vec<u8> {
+    let overhead = [31, 31, 31, 31, 31, 31, 95, 95].repeat(n);
+    let (xy, abcd) = signalling(n);
+    let mut line = vec![0; 512 * n];
+    write_signalled(&payload(n), &overhead, 0, &xy, &abcd, &mut line).unwrap();
+    line
+}
+
+#[test]
+fn signalling_is_read_as_it_was_written() {
+    let (xy, abcd) = signalling(4);
+    let mut heard = [BEFORE; 91];
+    let s = signals(&signalled_line(4), &mut heard).unwrap();
+    assert_eq!((s.multiframes, s.first, s.losses), (3, Some(16), 0));
+    assert_eq!(xy[3], 0b0110);
+    assert_eq!(
+        (s.held, s.x0, s.y, s.x1, s.x2),
+        (true, false, true, true, false)
+    );
+    assert_eq!(heard[..90], abcd[30..]);
+    assert_eq!(heard[90], BEFORE);
+}
+
+#[test]
+fn slot_16_is_replaced() {
+    let (n, overhead) = (2, [0; 16]);
+    let (xy, abcd) = signalling(n);
+    let mut payload = payload(n);
+    let (mut line, mut plain) = ([0; 1_024], [0; 1_024]);
+    let check = write_signalled(&payload, &overhead, 9, &xy, &abcd, &mut line);
+    for (f, slots) in payload.chunks_mut(31).enumerate() {
+        let channels = &abcd[30 * (f / 16)..];
+        slots[15] = match f % 16 {
+            0 => xy[f / 16],
+            i => channels[i - 1] << 4 | channels[i + 14],
+        };
+    }
+    assert_eq!(write(&payload, &overhead, 9, &mut plain), check);
+    assert_eq!(line, plain);
+}
+
+#[test]
+fn signalling_is_lost_and_found() {
+    let mut line = signalled_line(4);
+    let mut heard = |slots: &[(usize, u8)]| {
+        for (frame, octet) in slots {
+            line[32 * frame + 16] = *octet;
+        }
+        let s = signals(&line, &mut [0; 450]).unwrap();
+        ((s.multiframes, s.first, s.losses), (s.held, s.x0, s.y))
+    };
+    // The last signal wrong, then the one before it too.
+    assert_eq!(
+        heard(&[(48, 0x14)]),
+        ((3, Some(16), 0), (true, false, true))
+    );
+    assert_eq!(
+        heard(&[(32, 0x14)]),
+        ((2, Some(16), 1), (false, true, false))
+    );
+    // Found again in the next frame. X and Y are those of before.
+    assert_eq!(
+        heard(&[(49, 0x04)]),
+        ((2, Some(16), 1), (true, false, true))
+    );
+    // No signal but that of frame 0, then one in the last frame.
+    assert_eq!(
+        heard(&[(16, 0x14), (49, 0xDD)]),
+        ((0, None, 0), (false, true, false))
+    );
+    assert_eq!(
+        heard(&[(63, 0x00)]),
+        ((0, Some(63), 0), (true, true, false))
+    );
 }
 
 #[test]
@@ -177,6 +261,32 @@ fn basic_alignment_is_refused_with_its_place() {
 }
 
 #[test]
+fn signalling_is_refused() {
+    let line = signalled_line(16);
+    let refused = |image: &[u8], room| {
+        let mut abcd = vec![BEFORE; room];
+        let refusal = signals(image, &mut abcd).unwrap_err();
+        assert!(abcd.iter().all(|octet| *octet == BEFORE));
+        refusal
+    };
+    assert_eq!(refused(&line[..2_047], 450), Refusal::ShortImage);
+    assert_eq!(refused(&[0; 8_193], 450), Refusal::LongImage);
+    assert_eq!(refused(&[0; 8_192], 450), Refusal::NoPlace);
+    assert_eq!(refused(&line, 449), Refusal::ShortOutput);
+    assert_eq!(refused(&line, 0), Refusal::ShortOutput);
+    assert_eq!(refused(&[0; 2_048], 0), Refusal::NoPlace);
+
+    // The place is that of a reading, whatever room there is.
+    let mut line = [&[0; 3], &line[..2_048]].concat();
+    for m in 0..4 {
+        line[3 + (16 * m + 1) * 32] ^= 0x80;
+    }
+    for room in [0, 450] {
+        assert_eq!(refused(&line, room), Refusal::BasicOnly { place: 24 });
+    }
+}
+
+#[test]
 fn places_are_refused() {
     let line = line(16);
     assert_eq!(why(&line, 49_152), Ok(Why::Stands { k: 0 }));
@@ -205,6 +315,33 @@ fn writes_are_refused() {
     assert_eq!(refused(&payload, &[64; 8], 0, 512), Refusal::BadOverhead);
     assert_eq!(refused(&payload, &[0; 8], 16, 512), Refusal::BadCheck);
     assert_eq!(refused(&payload, &[0; 8], 0, 511), Refusal::ShortOutput);
+}
+
+#[test]
+fn writes_with_signalling_are_refused() {
+    let (xy, abcd) = signalling(1);
+    let refused = |octets, overhead: &[u8], check, xy: &[u8], abcd: &[u8], room| {
+        let mut out = vec![BEFORE; room];
+        let payload = &payload(1)[..octets];
+        let refusal = write_signalled(payload, overhead, check, xy, abcd, &mut out).unwrap_err();
+        assert!(out.iter().all(|octet| *octet == BEFORE));
+        refusal
+    };
+    let signals = |xy: &[u8], abcd: &[u8]| refused(496, &[0; 8], 0, xy, abcd, 0);
+    assert_eq!(refused(495, &[64], 16, &[], &[], 0), Refusal::BadPayload);
+    assert_eq!(refused(496, &[64], 16, &[], &[], 0), Refusal::BadOverhead);
+    assert_eq!(refused(496, &[0; 8], 16, &[], &[], 0), Refusal::BadCheck);
+    assert_eq!(signals(&[], &abcd), Refusal::BadSignals);
+    assert_eq!(signals(&[16], &abcd), Refusal::BadSignals);
+    assert_eq!(signals(&xy, &abcd[..29]), Refusal::BadSignals);
+    assert_eq!(signals(&xy, &[16; 30]), Refusal::BadSignals);
+    let mut none = abcd.clone();
+    none[29] = 0;
+    assert_eq!(signals(&xy, &none), Refusal::BadSignals);
+    assert_eq!(
+        refused(496, &[0; 8], 0, &xy, &abcd, 511),
+        Refusal::ShortOutput
+    );
 }
 
 #[test]

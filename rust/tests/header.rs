@@ -59,16 +59,16 @@ fn refusals() {
         assert_eq!(refusal.number(), *number);
         assert!(!refusal.to_string().is_empty());
     }
-    assert_eq!(named.len(), 16);
+    assert_eq!(named.len(), 17);
     let basic = refusal(15).unwrap();
     assert_eq!(basic, Refusal::BasicOnly { place: 7 });
     assert!(basic.to_string().contains("place 7 "));
 }
 
 #[test]
-#[should_panic(expected = "does not name: 16")]
+#[should_panic(expected = "does not name: 17")]
 fn no_refusal() {
-    refusal(16);
+    refusal(17);
 }
 
 #[test]
