@@ -24,6 +24,11 @@ fn reads_folded() {
 }
 
 #[test]
+fn signals() {
+    agree::signals("the optimised form", optimised::signals);
+}
+
+#[test]
 fn whys() {
     agree::whys("the optimised form", optimised::why);
 }
@@ -40,6 +45,26 @@ fn writes_folded() {
     agree::writes("the folded form", |payload, overhead, carried, out| {
         optimised::write(payload, overhead, carried, out, fold::check)
     });
+}
+
+#[test]
+fn writes_signalled() {
+    agree::writes_signalled(
+        "the optimised form",
+        |payload, overhead, carried, xy, abcd, out| {
+            optimised::write_signalled(payload, overhead, carried, xy, abcd, out, chain::check)
+        },
+    );
+}
+
+#[test]
+fn writes_signalled_folded() {
+    agree::writes_signalled(
+        "the folded form",
+        |payload, overhead, carried, xy, abcd, out| {
+            optimised::write_signalled(payload, overhead, carried, xy, abcd, out, fold::check)
+        },
+    );
 }
 
 #[test]

@@ -1,14 +1,18 @@
 //! The oracle held to the bench cases of the paper, by their numbers, and to
-//! what the paper promises of `wordbits`, of `why` and of numbers 3 and 15.
+//! what the paper promises of `wordbits`, of `why`, of numbers 3 and 15 and of
+//! signalling.
 
 use agree::seed;
-use given::making::{flip, set_basic, shifted, wrong_signals, wrong_words};
+use given::making::{flip, set_basic, set_slot16, shifted, wrong_signals, wrong_words};
 use given::Random;
 use oracle::check::check;
 use oracle::line::{bits, number, octets, wrong_bits, BLOCK, FRAME, SIGNAL, WORD};
 use oracle::why::with_room;
 use oracle::writing::odd_slot0;
-use oracle::{read, report, said, why, write, Answer, Exchange, Reading, Why};
+use oracle::{
+    read, report, said, signals, why, write, write_signalled, Answer, Exchange, Reading, Signals,
+    Why,
+};
 
 const IMAGES: u64 = 4_000;
 
@@ -245,6 +249,156 @@ fn case_16_basic_alignment_only() {
     };
     assert_eq!(read_all(&set(0)), basic_only(0));
     assert_eq!(read_all(&set(1)), refusal(3));
+}
+
+/// What is heard of a line of which slot 16 is this, over and over, frame 0
+/// first, with ABCD of the first signalling multiframe read.
+fn heard(slots: &[u8; 16]) -> (Signals, [u8; 30]) {
+    let mut image = line(4);
+    for (f, slot) in (0..64).zip(slots.iter().cycle()) {
+        set_slot16(&mut image, &[f], *slot);
+    }
+    let mut abcd = [0; 450];
+    let s = signals(&image, &mut abcd);
+    (s, abcd[..30].try_into().unwrap())
+}
+
+#[test]
+fn an_idle_line_is_heard() {
+    let mut slots = [0xDD; 16];
+    slots[0] = 0x0B;
+    let (s, abcd) = heard(&slots);
+    assert_eq!((s.multiframes, s.first, s.losses, s.held), (3, 16, 0, 1));
+    assert_eq!((s.x0, s.x1, s.x2, s.y), (1, 1, 1, 0));
+    assert_eq!(abcd, [0b1101; 30]);
+}
+
+#[test]
+fn the_known_trap() {
+    let mut slots = [0; 16];
+    slots[0] = 0x0B;
+    let (s, abcd) = heard(&slots);
+    // One frame late: the true frame 0 is taken for channels 15 and 30.
+    assert_eq!((s.multiframes, s.first, s.losses, s.held), (3, 1, 0, 1));
+    assert_eq!((abcd[14], abcd[29]), (0x0, 0xB));
+    assert_eq!(abcd.iter().filter(|octet| **octet != 0).count(), 1);
+}
+
+#[test]
+fn no_signal_is_heard() {
+    for octet in [0x00, 0x10, 0xDD, 0xFF] {
+        let (s, _) = heard(&[octet; 16]);
+        assert_eq!((s.multiframes, s.first, s.losses, s.held), (0, 0, 0, 0));
+        assert_eq!((s.x0, s.x1, s.x2, s.y), (1, 1, 1, 0));
+    }
+}
+
+/// Slot 16 of the frames of an image that are used.
+fn used_slots(image: &[u8], reading: &Reading) -> Vec<u8> {
+    let bits = bits(image);
+    let frame = |f: usize| reading.start as usize + f * FRAME;
+    (0..16 * reading.used as usize)
+        .map(|f| number(&bits[frame(f) + 128..frame(f) + 136]))
+        .collect()
+}
+
+/// The frames at which alignment is taken, each with that of the loss.
+fn alignments(slots: &[u8]) -> Vec<(usize, Option<usize>)> {
+    let right = |f: usize| slots[f] < 16;
+    let mut alignments = Vec::new();
+    let mut from = 1;
+    while let Some(taken) = (from..slots.len()).find(|&f| right(f) && slots[f - 1] != 0) {
+        let loss = (taken + 32..slots.len())
+            .step_by(16)
+            .find(|&f| !right(f - 16) && !right(f));
+        alignments.push((taken, loss));
+        match loss {
+            Some(f) => from = f + 1,
+            None => break,
+        }
+    }
+    alignments
+}
+
+/// What is said of signalling, of images as they may come.
+#[test]
+fn signalling_in_the_words_of_the_paper() {
+    let seed = seed(&format!("{IMAGES} images, what is heard of them"));
+    let (mut lost, mut twice) = (0, 0);
+    for item in 0..IMAGES {
+        let image = given::signalled(&mut Random::new(seed, item));
+        let reading = read_all(&image);
+        let mut abcd = [0; 450];
+        let s = signals(&image, &mut abcd);
+        assert_eq!(s.number, reading.number, "image {item}");
+        if s.number != 0 {
+            continue;
+        }
+        let slots = used_slots(&image, &reading);
+        let alignments = alignments(&slots);
+        let first = alignments.first().map_or(0, |(taken, _)| *taken);
+        let losses = alignments.iter().filter(|(_, loss)| loss.is_some()).count();
+        let held = alignments.len() > losses;
+        assert_eq!(s.first, first as u64, "image {item}");
+        assert_eq!(s.losses, losses as u64, "image {item}");
+        assert_eq!(s.held, u64::from(held), "image {item}");
+
+        let begins: Vec<usize> = alignments
+            .iter()
+            .flat_map(|(taken, loss)| (*taken..loss.unwrap_or(slots.len())).step_by(16))
+            .filter(|f| f + 16 <= slots.len())
+            .collect();
+        assert_eq!(s.multiframes, begins.len() as u64, "image {item}");
+        for (f, abcd) in begins.iter().zip(abcd.chunks(30)) {
+            for i in 1..=15 {
+                let slot = 16 * abcd[i - 1] + abcd[i + 14];
+                assert_eq!(slot, slots[f + i], "image {item}");
+            }
+        }
+        let xy = match begins.last() {
+            Some(f) if held => u64::from(slots[*f] % 16),
+            _ => 0b1011,
+        };
+        assert_eq!(8 * s.x0 + 4 * s.y + 2 * s.x1 + s.x2, xy, "image {item}");
+        lost += u64::from(losses > 0);
+        twice += u64::from(losses > 1);
+    }
+    assert!(lost >= IMAGES / 8 && twice >= IMAGES / 40, "{lost} {twice}");
+}
+
+/// What is written with signalling is what is written without, of a payload
+/// with slot 16 replaced; and it is heard again from frame 16 on.
+#[test]
+fn signalling_is_heard_as_it_was_written() {
+    let seed = seed(&format!(
+        "{IMAGES} lines with signalling, written and heard"
+    ));
+    for item in 0..IMAGES {
+        let r = &mut Random::new(seed, item);
+        let (n, check) = (r.between(4, 16), r.below(16) as u64);
+        let (mut payload, overhead) = (r.octets(496 * n), given::overhead(r, 8 * n));
+        let (xy, abcd) = (r.numbers(n, 0, 15), r.numbers(30 * n, 1, 15));
+        let mut line = vec![0; 512 * n];
+        let written = write_signalled(&payload, &overhead, check, &xy, &abcd, &mut line);
+        for (f, slot) in payload.iter_mut().skip(15).step_by(31).enumerate() {
+            let channels = &abcd[30 * (f / 16)..];
+            *slot = match f % 16 {
+                0 => xy[f / 16],
+                i => channels[i - 1] << 4 | channels[i + 14],
+            };
+        }
+        let mut plain = vec![0; 512 * n];
+        assert_eq!(write(&payload, &overhead, check, &mut plain), written);
+        assert!(line == plain, "line {item}");
+
+        let mut heard = vec![0; 30 * (n - 1)];
+        let s = signals(&line, &mut heard);
+        assert_eq!((s.number, s.multiframes), (0, n as u64 - 1), "line {item}");
+        assert_eq!((s.first, s.losses, s.held), (16, 0, 1), "line {item}");
+        assert!(heard == abcd[30..], "line {item}");
+        let last = 8 * s.x0 + 4 * s.y + 2 * s.x1 + s.x2;
+        assert_eq!(last, u64::from(xy[n - 1]), "line {item}");
+    }
 }
 
 #[test]

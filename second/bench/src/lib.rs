@@ -2,10 +2,10 @@
 //! copy of the octets that the call hands over. The form under test, where
 //! there is one, comes first, and the ratios are its own.
 
-use given::making::{densest, false_starts, shifted, wrong_signals};
+use given::making::{densest, false_starts, set_slot16, shifted, wrong_signals};
 use given::Random;
 use optimised::{chain, fold, Check};
-use oracle::{read, why, write, Exchange};
+use oracle::{read, signals, why, write, write_signalled, Exchange};
 use std::arch::asm;
 use std::env;
 use std::process::ExitCode;
@@ -15,8 +15,10 @@ const ROUNDS: usize = 100;
 const ROUND: Duration = Duration::from_millis(1);
 
 type Read = Box<dyn Fn(&[u8], &mut [u8], &mut [u8]) -> u64>;
+type Signals = Box<dyn Fn(&[u8], &mut [u8]) -> u64>;
 type Why = Box<dyn Fn(&[u8], u64) -> u64>;
 type Write = Box<dyn Fn(&[u8], &[u8], u64, &mut [u8]) -> u64>;
+type WriteSignalled = Box<dyn Fn(&[u8], &[u8], u64, &[u8], &[u8], &mut [u8]) -> u64>;
 type Map = Box<dyn Fn(&[u8], &mut [u8]) -> u64>;
 
 /// The operations in one form, each answering its number with the rest of its
@@ -24,8 +26,10 @@ type Map = Box<dyn Fn(&[u8], &mut [u8]) -> u64>;
 pub struct Form {
     pub name: &'static str,
     pub read: Read,
+    pub signals: Signals,
     pub why: Why,
     pub write: Write,
+    pub write_signalled: WriteSignalled,
     pub map: Map,
 }
 
@@ -35,9 +39,13 @@ pub fn plain() -> Form {
     Form {
         name: "plain",
         read: Box::new(|image, payload, slot0| hidden(read(image, payload, slot0)).number),
+        signals: Box::new(|image, abcd| hidden(signals(image, abcd)).number),
         why: Box::new(|image, place| hidden(why(image, place)).number),
         write: Box::new(|payload, overhead, check, out| {
             hidden(write(payload, overhead, check, out)).number
+        }),
+        write_signalled: Box::new(|payload, overhead, check, xy, abcd, out| {
+            hidden(write_signalled(payload, overhead, check, xy, abcd, out)).number
         }),
         map: Box::new(move |payload, out| exchange.map(payload, out)),
     }
@@ -60,9 +68,15 @@ fn with_check(name: &'static str, check: Check) -> Form {
         read: Box::new(move |image, payload, slot0| {
             hidden(optimised::read(image, payload, slot0, check)).number
         }),
+        signals: Box::new(|image, abcd| hidden(optimised::signals(image, abcd)).number),
         why: Box::new(|image, place| hidden(optimised::why(image, place)).number),
         write: Box::new(move |payload, overhead, carried, out| {
             hidden(optimised::write(payload, overhead, carried, out, check)).number
+        }),
+        write_signalled: Box::new(move |payload, overhead, carried, xy, abcd, out| {
+            let written =
+                optimised::write_signalled(payload, overhead, carried, xy, abcd, out, check);
+            hidden(written).number
         }),
         map: Box::new(move |payload, out| optimised::map(&exchange, payload, out)),
     }
@@ -91,9 +105,20 @@ enum Asked {
         image: Vec<u8>,
         number: u64,
     },
+    /// Of an image of which so many signalling multiframes are read.
+    Signals {
+        image: Vec<u8>,
+        multiframes: u64,
+    },
     Write {
         payload: Vec<u8>,
         overhead: Vec<u8>,
+    },
+    WriteSignalled {
+        payload: Vec<u8>,
+        overhead: Vec<u8>,
+        xy: Vec<u8>,
+        abcd: Vec<u8>,
     },
     Map {
         payload: Vec<u8>,
@@ -122,7 +147,17 @@ fn rows() -> Vec<Row> {
     wrong_signals(&mut unpaired, &[1, 2, 3]);
     // This noise has basic alignment somewhere, as most of its length has.
     let noise = r.octets(8_192);
+    let (xy, abcd) = (r.numbers(16, 0, 15), r.numbers(480, 1, 15));
+    let mut signalled = vec![0; 8_192];
+    write_signalled(&payload, &overhead, 0, &xy, &abcd, &mut signalled);
+    let mut signalled_moved = shifted(&signalled, 3);
+    signalled_moved.truncate(8_192);
+    // No frame has the signal, so every one is looked at.
+    let mut unsignalled = signalled.clone();
+    let frames: Vec<usize> = (0..256).step_by(16).collect();
+    set_slot16(&mut unsignalled, &frames, 0xDD);
     let read = |image, number| Asked::Read { image, number };
+    let signals = |image, multiframes| Asked::Signals { image, multiframes };
     let why = |image, condition| Asked::Why { image, condition };
     vec![
         ("read-place-0", read(aligned.clone(), 0)),
@@ -131,11 +166,23 @@ fn rows() -> Vec<Row> {
         ("read-0x1B", read(vec![0x1B; 8_192], 3)),
         ("read-false-starts", read(false_starts, 15)),
         ("read-densest", read(densest(8_192), 15)),
+        ("signals-place-0", signals(signalled, 15)),
+        ("signals-place-3", signals(signalled_moved, 14)),
+        ("signals-none", signals(unsignalled, 0)),
         (
             "write-16",
             Asked::Write {
                 payload: payload.clone(),
+                overhead: overhead.clone(),
+            },
+        ),
+        (
+            "write-signalled-16",
+            Asked::WriteSignalled {
+                payload: payload.clone(),
                 overhead,
+                xy,
+                abcd,
             },
         ),
         ("map-16", Asked::Map { payload }),
@@ -156,11 +203,15 @@ pub fn hidden<T>(mut value: T) -> T {
 
 impl Asked {
     /// The octets that a copy takes in the call's stead. Of a place that is asked
-    /// about none are handed over, so these are the ones that it needs behind it.
+    /// about none are handed over, so these are the ones that it needs behind it;
+    /// of signalling as many as there can be at the most.
     fn handed_over(&self) -> &[u8] {
         match self {
             Asked::Read { image, .. } => &image[..7_936],
-            Asked::Write { payload, .. } | Asked::Map { payload } => payload,
+            Asked::Signals { image, .. } => &image[..450],
+            Asked::Write { payload, .. }
+            | Asked::WriteSignalled { payload, .. }
+            | Asked::Map { payload } => payload,
             Asked::Why { image, .. } => &image[..2_048],
         }
     }
@@ -187,9 +238,31 @@ impl Asked {
                     hidden(&out);
                 })
             }
+            Asked::Signals { image, multiframes } => {
+                let mut abcd = [0; 450];
+                assert_eq!(signals(image, &mut abcd).multiframes, *multiframes);
+                assert_eq!((form.signals)(image, &mut abcd), 0, "{}", form.name);
+                Box::new(move || {
+                    hidden((form.signals)(hidden(image), &mut abcd));
+                    hidden(&abcd);
+                })
+            }
             Asked::Write { payload, overhead } => Box::new(move || {
                 let (payload, overhead) = hidden((payload, overhead));
                 hidden((form.write)(payload, overhead, 9, &mut out));
+                hidden(&out);
+            }),
+            Asked::WriteSignalled {
+                payload,
+                overhead,
+                xy,
+                abcd,
+            } => Box::new(move || {
+                let (payload, overhead) = hidden((payload, overhead));
+                let (xy, abcd) = hidden((xy, abcd));
+                hidden((form.write_signalled)(
+                    payload, overhead, 9, xy, abcd, &mut out,
+                ));
                 hidden(&out);
             }),
             Asked::Map { payload } => Box::new(move || {

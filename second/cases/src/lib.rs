@@ -3,9 +3,9 @@
 
 #![forbid(unsafe_code)]
 
-use given::making::{flip, set_basic, shifted, wrong_signals, wrong_words};
+use given::making::{flip, set_basic, set_slot16, shifted, wrong_signals, wrong_words};
 use oracle::line::octets;
-use oracle::{read, why, write, Exchange};
+use oracle::{read, signals, why, write, write_signalled, Exchange};
 use std::fmt::Write;
 
 /// What every lent octet holds before a call.
@@ -23,8 +23,16 @@ pub fn all() -> String {
     basics(&mut text);
     outputs(&mut text);
     whys(&mut text);
+    heard(&mut text);
+    alignments(&mut text);
+    wrongs(&mut text);
+    agains(&mut text);
+    xs_and_ys(&mut text);
+    used(&mut text);
+    abcds(&mut text);
     writes(&mut text);
     rows(&mut text);
+    signalled_writes(&mut text);
     runs(&mut text);
     text
 }
@@ -58,6 +66,22 @@ fn line_of(payload: &[u8], overhead: &[u8]) -> Vec<u8> {
 
 fn line(n: usize) -> Vec<u8> {
     line_of(&payload(496 * n), &overhead(8 * n))
+}
+
+fn xy(octets: usize) -> Vec<u8> {
+    (0..octets).map(|m| ((5 * m + 11) % 16) as u8).collect()
+}
+
+fn abcd(octets: usize) -> Vec<u8> {
+    let of = |i: usize| 1 + (7 * i + 3 * (i / 30)) % 15;
+    (0..octets).map(|i| of(i) as u8).collect()
+}
+
+fn signalled(n: usize) -> Vec<u8> {
+    let (payload, overhead) = (payload(496 * n), overhead(8 * n));
+    let mut line = vec![0; 512 * n];
+    write_signalled(&payload, &overhead, 5, &xy(n), &abcd(30 * n), &mut line);
+    line
 }
 
 fn read_into(text: &mut String, label: &str, image: &[u8], room: usize, room0: usize) {
@@ -390,6 +414,221 @@ fn whys(text: &mut String) {
     why_case(text, "why long", &long, 0);
 }
 
+fn signals_into(text: &mut String, label: &str, image: &[u8], room: usize) {
+    let mut abcd = vec![BEFORE; room];
+    let s = signals(image, &mut abcd);
+    write!(text, "{label}: {} multiframes {}", s.number, s.multiframes).unwrap();
+    write!(text, " first {} losses {}", s.first, s.losses).unwrap();
+    write!(text, " held {} x0 {} x1 {}", s.held, s.x0, s.x1).unwrap();
+    write!(text, " x2 {} y {}", s.x2, s.y).unwrap();
+    writeln!(text, " abcd {}", digest(&abcd)).unwrap();
+}
+
+/// With room for all that any image holds.
+fn signals_case(text: &mut String, label: &str, image: &[u8]) {
+    signals_into(text, label, image, 450);
+}
+
+fn heard(text: &mut String) {
+    for n in [4, 5, 16] {
+        signals_case(text, &format!("heard {n}"), &signalled(n));
+    }
+    for front in [0, 1, 2, 3, 4, 5, 6, 7, 61] {
+        let image = shifted(&signalled(4), front);
+        signals_case(text, &format!("heard front {front}"), &image);
+    }
+    signals_case(text, "heard cut", &signalled(5)[64..]);
+    let mut image = signalled(5);
+    wrong_signals(&mut image, &[0]);
+    signals_case(text, "heard k 8", &image);
+    signals_case(text, "heard rest", &signalled(5)[..2_528]);
+    signals_case(text, "heard short", &signalled(16)[..2_047]);
+    let mut long = signalled(16);
+    long.push(0);
+    signals_case(text, "heard long", &long);
+    signals_case(text, "heard in payload", &line(4));
+    signals_case(text, "heard in payload 16", &line(16));
+}
+
+/// A line with signalling in which slot 16 of these frames is changed.
+fn heard_line(n: usize, slots: &[(u8, &[usize])]) -> Vec<u8> {
+    let mut image = signalled(n);
+    for (octet, frames) in slots {
+        set_slot16(&mut image, frames, *octet);
+    }
+    image
+}
+
+/// Every 16th frame from this one on, of n multiframes.
+fn sixteenths(n: usize, first: usize) -> Vec<usize> {
+    (first..16 * n).step_by(16).collect()
+}
+
+/// The first alignment taken is at this frame, where there are so many left.
+fn taken_at(first: usize) -> Vec<u8> {
+    heard_line(4, &[(221, &sixteenths(4, 0)), (4, &sixteenths(4, first))])
+}
+
+fn alike(octet: u8) -> Vec<u8> {
+    let all: Vec<usize> = (0..64).collect();
+    heard_line(4, &[(octet, &all)])
+}
+
+fn alignments(text: &mut String) {
+    let with_signals = |octet| {
+        let mut image = alike(octet);
+        set_slot16(&mut image, &sixteenths(4, 0), 11);
+        image
+    };
+    let mut idle = with_signals(221);
+    signals_case(text, "18 idle", &idle);
+    signals_case(text, "18 late", &with_signals(0));
+    set_slot16(&mut idle, &[32], 27);
+    signals_case(text, "18 one wrong", &idle);
+    set_slot16(&mut idle, &[48], 27);
+    signals_case(text, "18 two wrong", &idle);
+    set_slot16(&mut idle, &[49], 11);
+    signals_case(text, "18 again", &idle);
+    for octet in [0, 11, 16, 221, 255] {
+        signals_case(text, &format!("all {octet}"), &alike(octet));
+    }
+    let channels: Vec<usize> = (17..64).filter(|f| f % 16 != 0).collect();
+    signals_case(text, "trap not met", &heard_line(4, &[(0, &channels)]));
+
+    for first in [0, 1, 2, 15, 16, 17, 47, 48, 49, 63] {
+        signals_case(text, &format!("taken at {first}"), &taken_at(first));
+    }
+
+    let front: Vec<usize> = (0..16).collect();
+    for bit in 1..=8 {
+        let image = heard_line(4, &[(0, &front), (1 << (8 - bit), &[15])]);
+        signals_case(text, &format!("lone bit {bit}"), &image);
+    }
+    signals_case(text, "no bit before", &heard_line(4, &[(0, &front)]));
+}
+
+fn wrongs(text: &mut String) {
+    let mut wrong = |label: &str, frames: &[usize], octet: u8| {
+        signals_case(text, label, &heard_line(8, &[(octet, frames)]));
+    };
+    wrong("wrong one", &[48], 221);
+    wrong("wrong two", &[48, 64], 221);
+    wrong("wrong three", &[48, 64, 80], 221);
+    wrong("wrong four", &[48, 64, 80, 96], 221);
+    wrong("wrong apart", &[48, 80], 221);
+    wrong("wrong every other", &[32, 64, 96], 221);
+    wrong("wrong at once", &[32, 48], 221);
+    wrong("wrong twice", &[32, 48, 80, 96], 221);
+    for bit in 1..=4 {
+        wrong(&format!("wrong bit {bit}"), &[48, 64], 1 << (8 - bit));
+    }
+    wrong("wrong none", &[48, 64], 15);
+    wrong("wrong last", &[112], 221);
+    wrong("wrong last two", &[96, 112], 221);
+    for octet in [16, 31, 242] {
+        wrong(&format!("wrong last {octet}"), &[112], octet);
+    }
+
+    let mut at_15 = |label: &str, right: &[usize]| {
+        let image = heard_line(4, &[(221, &sixteenths(4, 0)), (4, right)]);
+        signals_case(text, label, &image);
+    };
+    at_15("wrong last frame", &[15, 31, 47]);
+    at_15("loss last frame", &[15, 31]);
+}
+
+fn agains(text: &mut String) {
+    let mut again = |label: &str, slots: &[(u8, &[usize])]| {
+        signals_case(text, label, &heard_line(8, slots));
+    };
+    again("again next", &[(221, &[48, 64]), (11, &[65])]);
+    again(
+        "again next kept",
+        &[(221, &[48, 64]), (4, &sixteenths(8, 65))],
+    );
+    again("again later", &[(221, &[48, 64]), (4, &sixteenths(8, 70))]);
+    again("again after one bit", &[(16, &[48, 64]), (0, &[65])]);
+    let zeros: Vec<usize> = (65..80).collect();
+    again("again in zeros", &[(221, &[48, 64]), (0, &zeros)]);
+    again("again unread", &[(213, &[96]), (221, &[112]), (11, &[120])]);
+
+    again("false start", &[(13, &[5])]);
+    again("false start at 1", &[(13, &[1])]);
+    again("false start early", &[(0, &[4]), (13, &[5])]);
+    again("false start kept", &[(13, &sixteenths(8, 5))]);
+    again("false start not met", &[(13, &[21, 37])]);
+
+    let mut most = |label: &str, slots: &[(u8, &[usize])]| {
+        signals_case(text, label, &heard_line(16, slots));
+    };
+    let before: Vec<usize> = (16..240).step_by(16).collect();
+    most("false start of 16", &[(13, &[239]), (221, &before)]);
+    most("most read", &[(9, &sixteenths(16, 1))]);
+    let starts: Vec<usize> = (1..256).step_by(33).collect();
+    most("most losses", &[(13, &starts)]);
+}
+
+fn xs_and_ys(text: &mut String) {
+    for octet in [0, 1, 2, 4, 8, 15] {
+        let image = heard_line(4, &[(octet, &[48])]);
+        signals_case(text, &format!("x and y {octet}"), &image);
+    }
+    let mut image = taken_at(15);
+    set_slot16(&mut image, &[63], 11);
+    signals_case(text, "x and y of a whole one", &image);
+}
+
+/// A line with signalling with these words wrong.
+fn unworded(n: usize, frames: &[usize]) -> Vec<u8> {
+    let mut image = signalled(n);
+    wrong_words(&mut image, frames);
+    image
+}
+
+fn used(text: &mut String) {
+    signals_case(text, "used none", &unworded(4, &[4, 6, 8]));
+    signals_case(text, "used one", &unworded(4, &[20, 22, 24]));
+    for first in [1, 15] {
+        let mut image = unworded(4, &[20, 22, 24]);
+        set_slot16(&mut image, &[first], 4);
+        signals_case(text, &format!("used one at {first}"), &image);
+    }
+    signals_case(text, "used two", &unworded(5, &[36, 38, 40]));
+    let mut four = |label: &str, frames: &[usize]| {
+        let mut image = unworded(8, &[68, 70, 72]);
+        set_slot16(&mut image, frames, 221);
+        signals_case(text, label, &image);
+    };
+    four("used four wrong past", &[48, 64]);
+    four("used four wrong in", &[32, 48]);
+}
+
+fn abcds(text: &mut String) {
+    signals_into(text, "abcd exact", &signalled(4), 90);
+    signals_into(text, "abcd short", &signalled(4), 89);
+    signals_into(text, "abcd longer", &signalled(4), 91);
+    signals_into(text, "abcd none", &signalled(4), 0);
+    signals_into(text, "abcd most short", &signalled(16), 449);
+    signals_into(text, "abcd most longer", &signalled(16), 512);
+    let two = heard_line(8, &[(221, &sixteenths(8, 32))]);
+    signals_into(text, "abcd of two exact", &two, 60);
+    signals_into(text, "abcd of two short", &two, 59);
+    signals_into(text, "abcd none used", &unworded(4, &[4, 6, 8]), 0);
+    signals_into(text, "abcd none heard", &alike(221), 0);
+    signals_into(text, "abcd none whole", &taken_at(49), 0);
+
+    signals_into(text, "abcd order 1", &[], 0);
+    signals_into(text, "abcd order 2", &[0; 8_193], 0);
+    signals_into(text, "abcd order 3", &[0; 2_048], 0);
+    let mut none = signalled(4);
+    wrong_signals(&mut none, &[0, 1, 2, 3]);
+    signals_into(text, "abcd order 15", &none, 0);
+    signals_into(text, "abcd order 15 in front", &shifted(&none, 8), 0);
+    signals_into(text, "abcd order 1 of basic", &none[..2_047], 0);
+    signals_into(text, "abcd order 2 of basic", &set(8_193, &[0]), 0);
+    signals_into(text, "abcd order 3 of basic", &set(2_048, &[1]), 0);
+}
+
 fn write_line(text: &mut String, label: &str, number: u64, check: u64, out: &[u8]) {
     writeln!(text, "{label}: {number} check {check} out {}", digest(out)).unwrap();
 }
@@ -462,6 +701,179 @@ fn rows(text: &mut String) {
     let mut out = [BEFORE; 1_024];
     let both = write(&payload, &overhead, 5, &mut out);
     write_line(text, "row at once", both.number, both.check, &out);
+}
+
+/// What a write with signalling is given, and the room of its output.
+struct Signalled {
+    payload: Vec<u8>,
+    overhead: Vec<u8>,
+    check: u64,
+    xy: Vec<u8>,
+    abcd: Vec<u8>,
+    room: usize,
+}
+
+impl Signalled {
+    fn of(n: usize) -> Signalled {
+        Signalled {
+            payload: payload(496 * n),
+            overhead: overhead(8 * n),
+            check: 5,
+            xy: xy(n),
+            abcd: abcd(30 * n),
+            room: 512 * n,
+        }
+    }
+
+    fn write(&self, text: &mut String, label: &str) {
+        let mut out = vec![BEFORE; self.room];
+        let w = write_signalled(
+            &self.payload,
+            &self.overhead,
+            self.check,
+            &self.xy,
+            &self.abcd,
+            &mut out,
+        );
+        write_line(text, label, w.number, w.check, &out);
+    }
+}
+
+/// Writes n multiframes of which something is otherwise.
+fn signalled_but(text: &mut String, label: &str, n: usize, other: impl Fn(&mut Signalled)) {
+    let mut given = Signalled::of(n);
+    other(&mut given);
+    given.write(text, label);
+}
+
+fn signalled_writes(text: &mut String) {
+    for n in [1, 4, 16] {
+        Signalled::of(n).write(text, &format!("signalled {n}"));
+    }
+    for check in [0, 10, 15] {
+        let label = format!("signalled check {check}");
+        signalled_but(text, &label, 1, |w| w.check = check);
+    }
+    let zeros = Signalled {
+        payload: vec![0; 496],
+        overhead: vec![0; 8],
+        check: 0,
+        xy: vec![0],
+        abcd: vec![1; 30],
+        room: 512,
+    };
+    zeros.write(text, "signalled zeros");
+    let ones = Signalled {
+        payload: vec![255; 496],
+        overhead: vec![63, 63, 63, 63, 63, 63, 127, 127],
+        check: 15,
+        xy: vec![15],
+        abcd: vec![15; 30],
+        room: 512,
+    };
+    ones.write(text, "signalled ones");
+    signalled_but(text, "signalled over slot 16", 1, |w| {
+        for i in [15, 46, 480] {
+            w.payload[i] = 255;
+        }
+    });
+    signalled_but(text, "signalled beside slot 16", 1, |w| {
+        for i in [14, 16] {
+            w.payload[i] = 255;
+        }
+    });
+    bad_signals(text);
+    bad_lengths(text);
+    signalled_orders(text);
+}
+
+fn bad_signals(text: &mut String) {
+    for octet in [0, 15, 16, 255] {
+        let label = format!("signalled XY {octet}");
+        signalled_but(text, &label, 1, |w| w.xy[0] = octet);
+    }
+    signalled_but(text, "signalled XY last 16", 4, |w| w.xy[3] = 16);
+    for octet in [0, 1, 15, 16, 255] {
+        for i in [0, 29] {
+            let label = format!("signalled ABCD {octet} at {i}");
+            signalled_but(text, &label, 1, |w| w.abcd[i] = octet);
+        }
+    }
+    for i in [14, 15, 75, 119] {
+        for octet in [0, 16] {
+            let label = format!("signalled ABCD {octet} at {i}");
+            signalled_but(text, &label, 4, |w| w.abcd[i] = octet);
+        }
+    }
+}
+
+fn bad_lengths(text: &mut String) {
+    signalled_but(text, "signalled XY none", 1, |w| w.xy.clear());
+    signalled_but(text, "signalled XY more", 1, |w| w.xy = xy(2));
+    signalled_but(text, "signalled XY three", 4, |w| w.xy = xy(3));
+    signalled_but(text, "signalled XY five", 4, |w| w.xy = xy(5));
+    signalled_but(text, "signalled ABCD none", 1, |w| w.abcd.clear());
+    signalled_but(text, "signalled ABCD less", 1, |w| w.abcd = abcd(29));
+    signalled_but(text, "signalled ABCD more", 1, |w| w.abcd = abcd(31));
+    signalled_but(text, "signalled ABCD twice", 1, |w| w.abcd = abcd(60));
+    signalled_but(text, "signalled ABCD past 0", 1, |w| w.abcd.push(0));
+    Signalled::of(17).write(text, "signalled over");
+    signalled_but(text, "signalled none", 0, |w| w.room = 512);
+}
+
+fn signalled_orders(text: &mut String) {
+    let mut order = |label: &str, other: &dyn Fn(&mut Signalled)| {
+        signalled_but(text, label, 1, other);
+    };
+    order("signalled 5 before 6", &|w| {
+        w.payload = payload(495);
+        w.overhead = overhead(7);
+    });
+    order("signalled 6 before 7", &|w| {
+        w.overhead = overhead(7);
+        w.check = 16;
+    });
+    order("signalled 7 before 16", &|w| {
+        w.check = 16;
+        w.xy.clear();
+    });
+    order("signalled 16 before 4", &|w| {
+        w.abcd = abcd(29);
+        w.room = 511;
+    });
+
+    // Everything is refused from the number on.
+    let order_16 = |w: &mut Signalled| {
+        w.xy.clear();
+        w.abcd.clear();
+        w.room = 0;
+    };
+    let order_7 = |w: &mut Signalled| {
+        w.check = 16;
+        order_16(w);
+    };
+    let order_6 = |w: &mut Signalled| {
+        w.overhead = overhead(7);
+        order_7(w);
+    };
+    order("signalled order 5", &|w| {
+        w.payload = payload(495);
+        order_6(w);
+    });
+    order("signalled order 6", &order_6);
+    order("signalled order 7", &order_7);
+    order("signalled order 16", &order_16);
+    order("signalled 64 at 5", &|w| {
+        w.overhead[5] = 64;
+        w.xy[0] = 16;
+    });
+    order("signalled most", &|w| {
+        w.check = u64::MAX;
+        w.xy[0] = 16;
+    });
+    order("signalled 4 short", &|w| w.room = 511);
+    order("signalled 4 none", &|w| w.room = 0);
+    order("signalled longer", &|w| w.room = 513);
 }
 
 /// A run of calls from the start.

@@ -91,7 +91,7 @@ fn signals(r: &mut Random) -> Vec<u8> {
 }
 
 /// The bits of a written line, of four multiframes or more but seldom less.
-fn line(r: &mut Random) -> Vec<u8> {
+pub fn line(r: &mut Random) -> Vec<u8> {
     let n = match r.below(8) {
         0 => r.between(1, 16),
         1 => 16,
@@ -167,7 +167,7 @@ pub fn hit_words(
     }
 }
 
-fn damage(r: &mut Random, line: &mut Vec<u8>) {
+pub fn damage(r: &mut Random, line: &mut Vec<u8>) {
     let length = line.len();
     let (frames, multiframes) = (length / FRAME, length / MULTIFRAME);
     let times = r.pick(&[1, 2, 3, 5, 10, 30]);
@@ -254,7 +254,7 @@ fn damage(r: &mut Random, line: &mut Vec<u8>) {
 }
 
 /// Bits in front, whole octets, cut at either end; an image as it may come.
-fn moved(r: &mut Random, line: Vec<u8>) -> Vec<u8> {
+pub fn moved(r: &mut Random, line: Vec<u8>) -> Vec<u8> {
     let mut image = match r.below(6) {
         // False starts in front of the true place, at any distance.
         0 => {

@@ -7,10 +7,12 @@ mod asked;
 mod image;
 pub mod making;
 mod random;
+mod signalled;
 
 pub use asked::{asked, Asked};
 pub use image::image;
 pub use random::Random;
+pub use signalled::{signalled, write_signalled, WriteSignalled};
 
 use oracle::Exchange;
 

@@ -36,6 +36,13 @@ pub fn wrong_signals(line: &mut [u8], multiframes: &[usize]) {
     }
 }
 
+/// Puts this octet into slot 16 of these frames.
+pub fn set_slot16(line: &mut [u8], frames: &[usize], octet: u8) {
+    for f in frames {
+        line[32 * f + 16] = octet;
+    }
+}
+
 /// Gives a place of these bits basic alignment: a word, a bit 2 of 1, a word.
 pub fn set_basic(bits: &mut [u8], place: usize) {
     bits[place + 1..place + 8].copy_from_slice(&WORD);

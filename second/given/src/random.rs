@@ -46,6 +46,11 @@ impl Random {
         (0..count).map(|_| self.octet()).collect()
     }
 
+    /// So many octets from `low` to `high`, both possible.
+    pub fn numbers(&mut self, count: usize, low: usize, high: usize) -> Vec<u8> {
+        (0..count).map(|_| self.between(low, high) as u8).collect()
+    }
+
     /// One of these.
     pub fn pick<T: Copy>(&mut self, from: &[T]) -> T {
         from[self.below(from.len())]

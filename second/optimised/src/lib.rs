@@ -1,8 +1,9 @@
-//! Reading, asking why, writing and mapping once more, as fast as safe Rust has
-//! them here: many places in one window of 64 bits, checks by folding, octets
-//! moved by the frame. The mark that the proved library's times are held to; the
-//! agreement tests hold it to the oracle. Reading and writing take the check of
-//! [`chain`] or that of [`fold`]; nothing else differs.
+//! Reading, asking why, writing, both with signalling too, and mapping once more,
+//! as fast as safe Rust has them here: many places in one window of 64 bits,
+//! checks by folding, octets moved by the frame. The mark that the proved
+//! library's times are held to; the agreement tests hold it to the oracle.
+//! Reading and writing take the check of [`chain`] or that of [`fold`]; nothing
+//! else differs.
 
 #![forbid(unsafe_code)]
 
@@ -11,11 +12,13 @@ pub mod fold;
 mod mapping;
 mod place;
 mod reading;
+mod signalling;
 mod why;
 mod writing;
 
 pub use mapping::map;
 pub use reading::read;
+pub use signalling::{signals, write_signalled};
 pub use why::why;
 pub use writing::write;
 

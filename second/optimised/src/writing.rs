@@ -17,23 +17,42 @@ pub fn write(
     out: &mut [u8],
     check: Check,
 ) -> Written {
-    let refused = |number| Written { number, check: 0 };
-    let n = payload.len() / 496;
-    if payload.len() % 496 != 0 || !(1..=16).contains(&n) {
-        return refused(5);
-    }
-    if overhead.len() != 8 * n || !overhead.chunks_exact(8).all(allowed) {
-        return refused(6);
-    }
-    if carried > 15 {
-        return refused(7);
-    }
+    let n = match multiframes_given(payload, overhead, carried) {
+        Ok(n) => n,
+        Err(number) => return refused(number),
+    };
     if out.len() < 512 * n {
         return refused(4);
     }
     let out = &mut out[..512 * n];
     fill(payload, overhead, out);
-    let mut check_before = carried as u8;
+    carry_all(out, carried as u8, check)
+}
+
+pub fn refused(number: u64) -> Written {
+    Written { number, check: 0 }
+}
+
+/// The n of what a write is given, or the first of numbers 5, 6 and 7.
+#[inline]
+pub fn multiframes_given(payload: &[u8], overhead: &[u8], carried: u64) -> Result<usize, u64> {
+    let n = payload.len() / 496;
+    if payload.len() % 496 != 0 || !(1..=16).contains(&n) {
+        return Err(5);
+    }
+    if overhead.len() != 8 * n || !overhead.chunks_exact(8).all(allowed) {
+        return Err(6);
+    }
+    if carried > 15 {
+        return Err(7);
+    }
+    Ok(n)
+}
+
+/// The check bits of every block, of which the first carries this check.
+#[inline]
+pub fn carry_all(out: &mut [u8], carried: u8, check: Check) -> Written {
+    let mut check_before = carried;
     for block in out.chunks_exact_mut(256) {
         // Before its bits are stored, or the next loads would wait for them.
         let check = check(block, 0);
@@ -55,7 +74,7 @@ fn allowed(overhead: &[u8]) -> bool {
 }
 
 /// Every frame, check bits 0: an even and an odd one at a time.
-fn fill(payload: &[u8], overhead: &[u8], out: &mut [u8]) {
+pub fn fill(payload: &[u8], overhead: &[u8], out: &mut [u8]) {
     let frames = out.chunks_exact_mut(64).zip(payload.chunks_exact(62));
     for (i, ((out, slots), octet)) in frames.zip(overhead).enumerate() {
         out[0] = 0x1B;

@@ -9,10 +9,12 @@ pub mod exchange;
 pub mod line;
 pub mod place;
 pub mod reading;
+pub mod signalling;
 pub mod why;
 pub mod writing;
 
 pub use exchange::{Answer, Exchange};
 pub use reading::{read, report, Reading};
+pub use signalling::{signals, write_signalled, Signals};
 pub use why::{said, why, Why};
 pub use writing::{write, Written};

@@ -15,20 +15,27 @@ pub fn multiframes(payload: &[u8]) -> Option<usize> {
     (1..=16).find(|n| payload.len() == 496 * n)
 }
 
+/// The n of what a write is given, or the number with which it is refused
+/// whatever else is given.
+pub fn multiframes_given(payload: &[u8], overhead: &[u8], carried: u64) -> Result<usize, u64> {
+    let n = multiframes(payload).ok_or(5_u64)?;
+    if overhead.len() != 8 * n || !overhead.iter().enumerate().all(allowed) {
+        return Err(6);
+    }
+    if carried > 15 {
+        return Err(7);
+    }
+    Ok(n)
+}
+
 /// Writes multiframes from a payload, the overhead of their odd frames and the
 /// check of the block before.
 pub fn write(payload: &[u8], overhead: &[u8], carried: u64, out: &mut [u8]) -> Written {
     let refused = |number| Written { number, check: 0 };
-    let n = match multiframes(payload) {
-        Some(n) => n,
-        None => return refused(5),
+    let n = match multiframes_given(payload, overhead, carried) {
+        Ok(n) => n,
+        Err(number) => return refused(number),
     };
-    if overhead.len() != 8 * n || !overhead.iter().enumerate().all(allowed) {
-        return refused(6);
-    }
-    if carried > 15 {
-        return refused(7);
-    }
     if out.len() < 512 * n {
         return refused(4);
     }

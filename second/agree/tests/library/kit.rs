@@ -1,11 +1,11 @@
 //! The proved library in the shape of the oracle, through its safe binding.
-//! Each read, why and write is made once more through the C interface: the
-//! number returned, all places of the answer, which are set beforehand, and
-//! every octet must be what the binding says.
+//! Each read, why and write, with signalling too, is made once more through the
+//! C interface: the number returned, all places of the answer, which are set
+//! beforehand, and every octet must be what the binding says.
 
 use jikhvanto::sys::{self, ANSWER};
 use jikhvanto::{Refusal, Why as Said};
-use oracle::{Reading, Why, Written};
+use oracle::{Reading, Signals, Why, Written};
 
 /// What a call leaves in the places of its answer.
 pub fn answered(call: impl FnOnce(&mut [u64; ANSWER]) -> u64) -> [u64; ANSWER] {
@@ -73,6 +73,57 @@ fn place(refusal: Refusal) -> u64 {
     }
 }
 
+pub fn signals(image: &[u8], abcd: &mut [u8]) -> Signals {
+    let mut c_abcd = abcd.to_vec();
+    // SAFETY: every pointer comes with the length of its own slice.
+    let answer = answered(|answer| unsafe {
+        sys::jk_signals(
+            image.as_ptr(),
+            image.len(),
+            c_abcd.as_mut_ptr(),
+            c_abcd.len(),
+            answer,
+        )
+    });
+    let s = match jikhvanto::signals(image, abcd) {
+        Ok(s) => Signals {
+            number: 0,
+            multiframes: s.multiframes as u64,
+            first: s.first.unwrap_or(0) as u64,
+            losses: s.losses as u64,
+            held: s.held.into(),
+            x0: s.x0.into(),
+            x1: s.x1.into(),
+            x2: s.x2.into(),
+            y: s.y.into(),
+        },
+        Err(refusal) => {
+            if let Refusal::BasicOnly { .. } = refusal {
+                let reading = jikhvanto::read(image, &mut [], &mut []);
+                assert_eq!(reading, Err(refusal), "the place that a reading says");
+            }
+            Signals {
+                number: refusal.number(),
+                ..Signals::default()
+            }
+        }
+    };
+    let values = [
+        s.number,
+        s.multiframes,
+        s.first,
+        s.losses,
+        s.held,
+        s.x0,
+        s.x1,
+        s.x2,
+        s.y,
+    ];
+    assert_eq!(answer, places(values));
+    assert!(c_abcd == abcd, "ABCD of {s:?}");
+    s
+}
+
 pub fn why(image: &[u8], place: u64) -> Why {
     // SAFETY: the pointer comes with the length of its own slice.
     let answer =
@@ -110,13 +161,51 @@ pub fn write(payload: &[u8], overhead: &[u8], check: u64, out: &mut [u8]) -> Wri
             answer,
         )
     });
-    let w = match jikhvanto::write(payload, overhead, check, out) {
+    let w = written(jikhvanto::write(payload, overhead, check, out));
+    assert_eq!(answer, places([w.number, w.check]));
+    assert!(c_out == out, "output of {w:?}");
+    w
+}
+
+fn written(answer: Result<u64, Refusal>) -> Written {
+    match answer {
         Ok(check) => Written { number: 0, check },
         Err(refusal) => Written {
             number: refusal.number(),
             check: 0,
         },
-    };
+    }
+}
+
+pub fn write_signalled(
+    payload: &[u8],
+    overhead: &[u8],
+    check: u64,
+    xy: &[u8],
+    abcd: &[u8],
+    out: &mut [u8],
+) -> Written {
+    let mut c_out = out.to_vec();
+    // SAFETY: every pointer comes with the length of its own slice.
+    let answer = answered(|answer| unsafe {
+        sys::jk_write_signalled(
+            payload.as_ptr(),
+            payload.len(),
+            overhead.as_ptr(),
+            overhead.len(),
+            check,
+            xy.as_ptr(),
+            xy.len(),
+            abcd.as_ptr(),
+            abcd.len(),
+            c_out.as_mut_ptr(),
+            c_out.len(),
+            answer,
+        )
+    });
+    let w = written(jikhvanto::write_signalled(
+        payload, overhead, check, xy, abcd, out,
+    ));
     assert_eq!(answer, places([w.number, w.check]));
     assert!(c_out == out, "output of {w:?}");
     w

@@ -3,7 +3,7 @@
 mod kit;
 mod runs;
 
-use agree::{seed, write_both};
+use agree::{seed, write_both, write_signalled_both};
 use given::{overhead, Random};
 
 const ROWS: u64 = 500;
@@ -14,6 +14,11 @@ fn reads() {
 }
 
 #[test]
+fn signals() {
+    agree::signals("the library", kit::signals);
+}
+
+#[test]
 fn whys() {
     agree::whys("the library", kit::why);
 }
@@ -21,6 +26,11 @@ fn whys() {
 #[test]
 fn writes() {
     agree::writes("the library", kit::write);
+}
+
+#[test]
+fn writes_signalled() {
+    agree::writes_signalled("the library", kit::write_signalled);
 }
 
 /// Each bit of each overhead octet alone, and each with all others.
@@ -48,6 +58,35 @@ fn every_overhead_bit() {
                 let mut others = most.clone();
                 others[j] ^= 1 << bit;
                 both(others, 15);
+            }
+        }
+    }
+}
+
+/// Any octet at each place of XY and ABCD, the others good.
+#[test]
+fn every_signal() {
+    let r = &mut Random::new(0, 0);
+    for n in [1, 3] {
+        let (payload, before) = (r.octets(496 * n), r.octets(512 * n));
+        let (xy, abcd) = (r.numbers(n, 0, 15), r.numbers(30 * n, 1, 15));
+        for octet in 0..=255 {
+            for i in 0..31 * n {
+                let (mut xy, mut abcd) = (xy.clone(), abcd.clone());
+                *xy.iter_mut().chain(&mut abcd).nth(i).unwrap() = octet;
+                let given = given::WriteSignalled {
+                    write: given::Write {
+                        payload: payload.clone(),
+                        overhead: vec![0; 8 * n],
+                        check: 0,
+                        before: before.clone(),
+                    },
+                    xy,
+                    abcd,
+                };
+                let good = octet < 16 && (octet > 0 || i < n);
+                let written = write_signalled_both(&given, kit::write_signalled);
+                assert_eq!(written.number, if good { 0 } else { 16 });
             }
         }
     }

@@ -17,9 +17,14 @@ fn kit() -> Form {
         read: Box::new(|image, payload, slot0| {
             number(hidden(jikhvanto::read(image, payload, slot0)))
         }),
+        signals: Box::new(|image, abcd| number(hidden(jikhvanto::signals(image, abcd)))),
         why: Box::new(|image, place| number(hidden(jikhvanto::why(image, place)))),
         write: Box::new(|payload, overhead, check, out| {
             number(hidden(jikhvanto::write(payload, overhead, check, out)))
+        }),
+        write_signalled: Box::new(|payload, overhead, check, xy, abcd, out| {
+            let written = jikhvanto::write_signalled(payload, overhead, check, xy, abcd, out);
+            number(hidden(written))
         }),
         map: Box::new(move |payload, out| number(state.map(payload, out))),
     }
