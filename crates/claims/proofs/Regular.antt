@@ -2,7 +2,7 @@
 -- else: alignment is taken at frame 16, and is held from there on.
 use Prim.Native.Nat.{ℕ, zero, suc, _+_, _-_, _*_, _/_, _%_, _≤_, _<_}
 use mathlib.Core.Path.{_≡_, refl, sym, ap, ap₂, _∙_}
-use mathlib.Core.Bool.{Bool, true, false, _&&_, not}
+use mathlib.Core.Bool.{true, false, _&&_, not}
 use mathlib.Core.List.{List, [], _∷_, _++_}
 use native.Mathlib.Numerals.{add-one}
 use native.Mathlib.Omega.{arith}
@@ -11,7 +11,7 @@ use lib.Dec.{eqb, ltb, lit≤}
 use lib.ListN.{length, getD}
 use Rattle.base.specs.Tab.{tab, tabFrom, sum, first}
 use Rattle.base.proofs.TabLaws.{length-tab, tab-more}
-use Rattle.signals.specs.Signalling.{signalAt, aligns, Walk, searching, begun, walk, startsIn, readIn, firstIn, lossesIn, heldIn}
+use Rattle.signals.specs.Signalling.{signalAt, aligns, Walk, walk, startsIn, readIn, firstIn, lossesIn, heldIn}
 use Rattle.signals.specs.Follow.{begins}
 use Rattle.signals.proofs.Laws.{between, aligns-later, next-begun, whole-passed, passed-few, first-set, first-unset, first-kept, unset-searching}
 use Rattle.signals.proofs.Starts.{few-read, losses-kept, starts-whole, losses-whole}
@@ -35,7 +35,8 @@ module _ {t : List ℕ} {n : ℕ} (g : Regular t n) (two : 2 ≤ n) where
   -- but there
   taken : aligns t 16 ≡ true
   taken =
-      let b : eqb (getD t 15 0) 0 ≡ false = ne-eqb (getD t 15 0) 0 (λ z. eqb-false (getD t 15 0 / 16) 0 (g .other 15 (omega arith) (λ k. omega arith)) (omega arith)) in
+      let n = eqb-false (getD t 15 0 / 16) 0 (g .other 15 (omega arith) (λ k. omega arith)) in
+      let b : eqb (getD t 15 0) 0 ≡ false = ne-eqb (getD t 15 0) 0 (λ z. n (omega arith)) in
       sym (aligns-later t 16 (λ z. omega arith)) ∙ ap₂ (λ a b. a && not b) (g .right 1 (omega arith)) b
 
   pub first-16 : firstIn t (16 * n) ≡ 16

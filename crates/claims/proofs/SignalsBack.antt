@@ -18,13 +18,13 @@ use Rattle.write.specs.Inputs.{Inputs}
 use Rattle.write.proofs.Laws.{payload-at}
 use Rattle.read.specs.Entry.{GoodLength}
 use Rattle.read.proofs.EntryLaws.{placed-0}
-use Rattle.signals.specs.Signalling.{signalAt, startsIn, readIn, firstIn, lossesIn, heldIn, abcdAt, abcdIn, xyIn}
+use Rattle.signals.specs.Signalling.{startsIn, readIn, firstIn, lossesIn, heldIn, abcdAt, abcdIn, xyIn}
 use Rattle.signals.specs.Entry.{slot16Of, slot16In, filled, refusal, accept, Signalled}
 use Rattle.signals.specs.declared.Signalling.{Signalling}
 use Rattle.signals.proofs.EntryLaws.{placed-then, signals-number, signals-accepted}
 use Rattle.signalled.specs.Slot16.{abcdOf, slot16, withSlot16}
 use Rattle.signalled.specs.Given.{Given}
-use Rattle.signalled.proofs.Laws.{slot16-lt, with-length, with-slot16, with-octets}
+use Rattle.signalled.proofs.Laws.{with-length, with-slot16, with-octets}
 use Rattle.claims.specs.Signals.{SignalsBack}
 use Rattle.claims.proofs.Demand2 as demand2
 use Rattle.claims.proofs.Framed.{stands-at-once}

@@ -1,7 +1,7 @@
 -- Signalling, read and written (KIT §5, §6 and §11).
 use Prim.Native.Nat.{ℕ, _+_, _-_, _*_, _/_, _%_, _≤_, _<_}
 use mathlib.Core.Path.{_≡_}
-use mathlib.Core.Bool.{true, false}
+use mathlib.Core.Bool.{true}
 use mathlib.Core.List.{List}
 use mathlib.Core.Logic.{_↔_, _≢_}
 use lib.ListN.{length, getD, take, drop}
@@ -11,7 +11,7 @@ use Rattle.e1.specs.Payload.{indexOf, multiframes}
 use Rattle.read.specs.Entry.{Read}
 use Rattle.read.specs.declared.Reading.{Reading}
 use Rattle.write.specs.declared.Written.{Written}
-use Rattle.signals.specs.Signalling.{signalAt, aligns, searching, begun, walk, loses, startsIn, readIn, firstIn, abcdAt}
+use Rattle.signals.specs.Signalling.{signalAt, begun, walk, loses, startsIn, readIn, firstIn, abcdAt}
 use Rattle.signals.specs.Lost.{Lost}
 use Rattle.signals.specs.Entry.{slot16In, Signalled}
 use Rattle.signals.specs.declared.Signalling.{Signalling}

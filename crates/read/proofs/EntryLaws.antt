@@ -1,13 +1,12 @@
 -- The laws of the entry: its numbers, what an accepted call and a refused one give, and that two results are equal.
 use Prim.Native.Nat.{ℕ, zero, suc, _+_, _*_, _≤_, _<_}
 use mathlib.Core.Path.{_≡_, refl, sym, ap, subst, _∙_}
-use mathlib.Core.Bool.{Bool, true, false, _||_, or-true, true≢false}
+use mathlib.Core.Bool.{Bool, true, false, _||_, true≢false}
 use mathlib.Core.List.{List, [], _∷_}
-use mathlib.Core.Logic.{_⊎_, inl, inr, _↔_}
 use mathlib.Core.Option.{Option, none, some}
 use mathlib.Mathlib.Data.Bool.Basic.{or-eq-false-eq-eq-false-and-eq-false}
 use native.Mathlib.Omega.{arith}
-use borrow.Author.Tests.{lt-ltb, le-ltb, ltb-true, ltb-false}
+use borrow.Author.Tests.{lt-ltb, le-ltb, ltb-false}
 use lib.Dec.{eqb, ltb}
 use lib.ListN.{length}
 use Rattle.base.proofs.AnswerLaws.{accepted-so, accepted-both, accepted-single, joined-first, joined-then, Tells, first-tells}
@@ -90,17 +89,6 @@ module _ (s : List ℕ) (a b : ℕ) where
   unfolding refusal
   placed-then z t e = joined-then last (unplaced s) refl z ∙ ap (λ t. if t then 4 else 0) e
 
-  pub number-1 : refusal s a b ≡ 1 ↔ length s < 2048
-  unfolding refusal
-  number-1 = (λ e. ltb-true (length s) 2048 (rw e at tells), λ h. rw (lt-ltb (length s) 2048 h))
-
-  pub number-2 : refusal s a b ≡ 2 ↔ 8192 < length s
-  unfolding refusal
-  number-2 = (
-    λ e. ltb-true 8192 (length s) ((rw e at tells) .1),
-    λ h. rw (le-ltb (length s) 2048 (omega arith), lt-ltb 8192 (length s) h),
-  )
-
   -- what 3 and 15 tell of the search
   pub told-3 : refusal s a b ≡ 3 → GoodLength s × (foundIn s ≡ Nothing)
   told-3 e =
@@ -116,33 +104,14 @@ module _ (s : List ℕ) (a b : ℕ) where
   -- of an image of good length
   module _ (good : GoodLength s) where
     pub refused-3 : foundIn s ≡ Nothing → refusal s a b ≡ 3
-    unfolding refusal
-    refused-3 e = rw (le-ltb (length s) 2048 (good .long), le-ltb 8192 (length s) (good .short), e)
+    refused-3 e = unplaced-first 3 (sym (placed-3 s good e)) (λ z. omega arith)
 
     pub refused-15 : (p : ℕ) → foundIn s ≡ BasicAt p → refusal s a b ≡ 15
-    unfolding refusal
-    refused-15 p e = rw (le-ltb (length s) 2048 (good .long), le-ltb 8192 (length s) (good .short), e)
+    refused-15 p e = unplaced-first 15 (sym (placed-15 s good p e)) (λ z. omega arith)
 
     -- on which a place stands
-    module _ (w : Standing) (e : firstStanding s ≡ some w) where
-      pub refused-4 : shortOutput ≡ true → refusal s a b ≡ 4
-      unfolding refusal
-      refused-4 f = rw (le-ltb (length s) 2048 (good .long), le-ltb 8192 (length s) (good .short), e, f)
-
-      pub accepts : shortOutput ≡ false → refusal s a b ≡ 0
-      unfolding refusal
-      accepts f = rw (le-ltb (length s) 2048 (good .long), le-ltb 8192 (length s) (good .short), e, f)
-
-      pub number-4 : refusal s a b ≡ 4 ↔ (a < 496 * usedIn s) ⊎ (b < 16 * usedIn s)
-      number-4 = (
-        λ z. which (ltb a (496 * usedIn s)) refl ((rw z at tells) .1 .1 .1 .1),
-        λ h. refused-4 (elim h [ inl l ↦ rw (lt-ltb a (496 * usedIn s) l) | inr l ↦ rw (lt-ltb b (16 * usedIn s) l) (or-true (ltb a (496 * usedIn s))) ]),
-      )
-        where
-          which : (t : Bool) → ltb a (496 * usedIn s) ≡ t → t || ltb b (16 * usedIn s) ≡ true
-              → (a < 496 * usedIn s) ⊎ (b < 16 * usedIn s)
-          which true p q = inl (ltb-true _ _ p)
-          which false p q = inr (ltb-true _ _ q)
+    pub accepts : (w : Standing) → firstStanding s ≡ some w → shortOutput ≡ false → refusal s a b ≡ 0
+    accepts w e f = placed-then (placed-0 s good w e) false f
 
 -- the place and the start are those of the first place that stands
 module _ (s : List ℕ) (w : Standing) (e : firstStanding s ≡ some w) where

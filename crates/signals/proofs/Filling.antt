@@ -10,9 +10,9 @@ use Rattle.base.proofs.TabLaws.{tab-agree}
 use Rattle.base.proofs.PartLaws.{part-more, part-rest, parts-kept}
 use Rattle.signals.specs.Signalling.{startsIn, readIn, abcdAt, abcdIn}
 use Rattle.signals.specs.Entry.{filled}
-use Rattle.signals.specs.Follow.{startsOf, followed, channels}
+use Rattle.signals.specs.Follow.{followed, channels}
 use Rattle.signals.specs.declared.Followed.{Followed}
-use Rattle.signals.proofs.Found.{found-read, found-starts, found-few, found-start, found-within, channels-part}
+use Rattle.signals.proofs.Found.{found-read, found-few, found-start, found-within, channels-part}
 
 -- octet i of the output
 abbrev octetOf : List ℕ → ℕ → ℕ

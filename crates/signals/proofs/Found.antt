@@ -1,9 +1,9 @@
 -- What is found in the octets of slot 16, and what is told by it: where a signalling multiframe stands, its channels, X
 -- and Y.
-use Prim.Native.Nat.{ℕ, _+_, _-_, _*_, _/_, _%_, _≤_, _<_}
+use Prim.Native.Nat.{ℕ, _+_, _-_, _/_, _%_, _≤_, _<_}
 use mathlib.Core.Path.{_≡_, refl, sym, ap, ap₂, _∙_}
 use mathlib.Core.Bool.{Bool, true, false, _&&_, and-eq-true-iff}
-use mathlib.Core.List.{List, _++_}
+use mathlib.Core.List.{List}
 use native.Mathlib.Nat.{zero-add}
 use native.Mathlib.Omega.{arith}
 use borrow.Author.Tests.{ltb-true, leb-true, leb-false}
@@ -11,9 +11,8 @@ use lib.Dec.{leb, ltb}
 use lib.ListN.{length, getD, take, drop, replicate, List·getD-append}
 use lib.Seq.{getD-take, getD-drop}
 use Rattle.base.specs.Choice.{if_then_else_}
-use Rattle.base.specs.Tab.{tab}
 use Rattle.base.proofs.TabLaws.{tab-agree}
-use Rattle.signals.specs.Signalling.{startsIn, readIn, firstIn, lossesIn, heldIn, abcdAt, xyIn}
+use Rattle.signals.specs.Signalling.{startsIn, readIn, heldIn, abcdAt, xyIn}
 use Rattle.signals.specs.Follow.{startsOf, followed, channels}
 use Rattle.signals.specs.declared.Followed.{Followed}
 use Rattle.signals.proofs.Starts.{few-read, start-within}

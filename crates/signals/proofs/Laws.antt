@@ -1,5 +1,5 @@
 -- The laws of the walk from frame to frame, and of the first alignment.
-use Prim.Native.Nat.{ℕ, zero, suc, _+_, _-_, _*_, _/_, _%_, _≤_, _<_}
+use Prim.Native.Nat.{ℕ, zero, suc, _+_, _-_, _/_, _%_, _≤_, _<_}
 use mathlib.Core.Path.{_≡_, refl, sym, ap, _∙_}
 use mathlib.Core.Bool.{Bool, true, false, _&&_, not, true≢false}
 use mathlib.Core.List.{List}
@@ -11,7 +11,7 @@ use borrow.Author.Tests.{ne-eqb, eqb-false, le-leb, lt-leb}
 use lib.Dec.{eqb, lit≤}
 use lib.ListN.{getD}
 use Rattle.base.specs.Choice.{if_then_else_, valueOr}
-use Rattle.base.specs.Tab.{first, least}
+use Rattle.base.specs.Tab.{least}
 use Rattle.base.proofs.TabLaws.{Least, least-some, some-least, least-more, least-none}
 use Rattle.signals.specs.Signalling.{signalAt, aligns, Walk, searching, begun, step, walk, firstIn, abcdAt}
 use Rattle.signals.specs.Follow.{begins}

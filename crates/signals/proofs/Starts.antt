@@ -1,7 +1,7 @@
 -- The signalling multiframes that are read: where they begin, how many there are, and the losses between them.
 use Prim.Native.Nat.{ℕ, zero, suc, _+_, _-_, _*_, _%_, _≤_, _<_}
 use mathlib.Core.Path.{_≡_, refl, sym, ap, ap₂, subst, _∙_}
-use mathlib.Core.Bool.{Bool, true, false, _&&_, true≢false}
+use mathlib.Core.Bool.{Bool, true, false, _&&_}
 use mathlib.Core.List.{List, [], _∷_, _++_, append-nil}
 use native.Mathlib.Numerals.{add-one}
 use native.Mathlib.Decide.{decLt}
@@ -11,10 +11,9 @@ use lib.Dec.{eqb, lit≤}
 use lib.ListN.{length, getD, length-append, List·getD-append}
 use lib.Seq.{getD-at}
 use Rattle.base.specs.Choice.{if_then_else_}
-use Rattle.base.specs.Tab.{sum}
-use Rattle.base.proofs.TabLaws.{count-yes, count-no, count-le}
-use Rattle.signals.specs.Signalling.{signalAt, Walk, searching, begun, step, walk, ends, loses, startsIn, readIn, lossesIn}
-use Rattle.signals.proofs.Laws.{walk-more, within, inside, step-passed, passed-most, passed-few}
+use Rattle.base.proofs.TabLaws.{count-yes, count-no}
+use Rattle.signals.specs.Signalling.{Walk, begun, step, walk, ends, loses, startsIn, readIn, lossesIn}
+use Rattle.signals.proofs.Laws.{walk-more, inside, step-passed, passed-most, passed-few}
 
 module _ (t : List ℕ) where
   starts-more : (f : ℕ) → startsIn t (f + 1) ≡ startsIn t f ++ (if ends t f then (f - 15) ∷ [] else [])

@@ -1,11 +1,11 @@
 -- The octets of slot 16 as one pass goes through them.
 use Prim.Native.Nat.{ℕ, suc, _+_, _-_, _*_, _≤_, _<_}
 use mathlib.Core.Path.{_≡_, refl, sym, ap, ap₂, _∙_}
-use mathlib.Core.Bool.{Bool, true, false, _&&_, not, true≢false, and-eq-true-iff}
+use mathlib.Core.Bool.{Bool, true, false, _&&_, not, true≢false}
 use mathlib.Core.List.{List, [], _∷_, _++_}
 use mathlib.Core.Logic.{_⊎_, inl, inr}
 use native.Mathlib.Omega.{arith}
-use borrow.Author.Tests.{eq-eqb, ne-eqb, eqb-true, eqb-false}
+use borrow.Author.Tests.{ne-eqb, eqb-true, eqb-false}
 use lib.Dec.{eqb, lit≤}
 use lib.ListN.{length, set, replicate, length-append}
 use lib.Seq.{set-at, append-snoc}
@@ -13,7 +13,6 @@ use mir.Val.{boolByte}
 use Rattle.base.specs.Tab.{sum, first}
 use Rattle.signals.specs.Signalling.{signalAt, aligns, Walk, searching, begun, walk, startsIn, readIn, firstIn, lossesIn, heldIn}
 use Rattle.signals.specs.Follow.{begins, startsOf, followed}
-use Rattle.signals.specs.declared.Followed.{Followed}
 use Rattle.signals.proofs.Laws.{between, next-begun, next-searching, inside, whole-passed, first-set, first-unset, first-kept, unset-searching}
 use Rattle.signals.proofs.Starts.{starts-kept, losses-more, losses-kept, starts-inside, losses-inside, starts-whole, losses-whole}
 

@@ -1,8 +1,8 @@
 -- `put_abcd` meets its contract: at the head of the loop the channels of m signalling multiframes are written.
-use Prim.Native.Nat.{_+_, _-_, _*_, _≤_, _<_}
-use mathlib.Core.Path.{_≡_, refl, _∙_}
+use Prim.Native.Nat.{_+_, _-_, _*_}
+use mathlib.Core.Path.{_∙_}
 use native.Mathlib.Omega.{arith}
-use lib.ListN.{length, getD}
+use lib.ListN.{getD}
 use Rattle.base.proofs.PartLaws.{part-length}
 use Rattle.signals.proofs.Filling.{Filling, none-filled, few, room, there, filled-more, all-filled}
 use Rattle.signals.proofs.put_abcd.Statement.{statement}

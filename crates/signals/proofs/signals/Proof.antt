@@ -1,12 +1,12 @@
 -- `signals` meets its contract: what locating refuses, number 4, or what is found in slot 16 of the frames that are used.
 use Prim.Native.Nat.{ℕ, _-_, _*_, _≤_}
-use mathlib.Core.Path.{_≡_, sym, ap, ap₂, _∙_}
+use mathlib.Core.Path.{_≡_, ap, ap₂, _∙_}
 use mathlib.Core.Bool.{true, false}
 use mathlib.Core.List.{List}
 use native.Mathlib.Omega.{arith}
 use borrow.Author.Needs.{needs}
 use borrow.Author.Tests.{lt-ltb, le-ltb}
-use lib.ListN.{length, take, drop}
+use lib.ListN.{length, take}
 use Rattle.read.specs.Entry.{startIn, usedIn}
 use Rattle.read.proofs.Measures.{Places, places}
 use Rattle.signals.specs.Entry.{slot16Of, slot16In, filled}

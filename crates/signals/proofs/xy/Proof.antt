@@ -1,7 +1,6 @@
 -- `xy` meets its contract: frame 0 of the last that is read, or X 1 and Y 0.
 use Prim.Native.Nat.{_+_, _-_, _≤_}
-use mathlib.Core.Path.{_≡_}
-use mathlib.Core.Bool.{_&&_, and-eq-true-iff}
+use mathlib.Core.Bool.{and-eq-true-iff}
 use native.Mathlib.Omega.{arith}
 use borrow.Author.Tests.{ltb-true}
 use lib.Dec.{ltb}
