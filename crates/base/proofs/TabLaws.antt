@@ -121,11 +121,11 @@ tab-of n f l e h =
     (λ i l. let k : i < n = rw length-tab at l in getD-tab n f i 0 k ∙ h i k)
 
 -- what passes first
-whenSo-some : (b : Bool) (i k : ℕ) → whenSo b i ≡ some k → (b ≡ true) × (i ≡ k)
+pub whenSo-some : (b : Bool) (i k : ℕ) → whenSo b i ≡ some k → (b ≡ true) × (i ≡ k)
 whenSo-some true i k e = (refl, Option·some-injective i k e)
 whenSo-some false i k e = absurd (Option·none-ne-some k e)
 
-whenSo-none : (b : Bool) (i : ℕ) → whenSo b i ≡ none → b ≡ false
+pub whenSo-none : (b : Bool) (i : ℕ) → whenSo b i ≡ none → b ≡ false
 whenSo-none true i e = absurd (Option·some-ne-none i e)
 whenSo-none false i e = refl
 

@@ -1,5 +1,7 @@
 pub mod Laws
+pub mod LossLaws
 pub mod EntryLaws
 pub mod Slots
-pub mod Words
+pub mod Runs
+pub mod Tracks
 pub mod Measures

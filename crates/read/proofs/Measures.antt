@@ -10,11 +10,12 @@ use lib.ListN.{length, drop}
 use Rattle.line.specs.Bit.{Room}
 use Rattle.align.specs.Place.{firstStanding}
 use Rattle.align.proofs.Laws.{first-within}
-use Rattle.read.specs.Reading.{whole, loss, lostAt, usedOf, payloadOf, slot0Of, wordErrors, wordBits, compared}
-use Rattle.read.specs.Reading.{errored, farEnd}
+use Rattle.read.specs.Reading.{whole, loss, lostAt, causeOf, usedOf, payloadOf, slot0Of, wordErrors, wordBits}
+use Rattle.read.specs.Reading.{compared, errored, farEnd}
 use Rattle.read.specs.Entry.{unplaced, located, found, nowhere, startIn, wholeIn, usedIn, GoodLength}
 use Rattle.read.specs.Entry.{reading, accept, refuse, refusedPlace, refusal, Read}
-use Rattle.read.proofs.Laws.{used-le, whole-fits}
+use Rattle.read.proofs.Laws.{whole-fits}
+use Rattle.read.proofs.LossLaws.{used-le}
 use Rattle.read.specs.declared.Located.{Located}
 use Rattle.read.specs.declared.Reading.{Reading}
 use Rattle.read.proofs.EntryLaws.{place-is, start-is, placed, placed-0, unplaced-first, placed-then, refused-as}
@@ -49,9 +50,10 @@ module _ (s : List ℕ) (good : GoodLength s) (p k : ℕ) (e : firstStanding s �
 
     -- what is located from there
     pub located-so : (l : Located) → l .number ≡ 0 → l .place ≡ p → l .start ≡ q → l .whole ≡ m → l .used ≡ g
-        → l .lost ≡ lostAt (loss s q m) → l .words ≡ wordErrors s q g → l .wordbits ≡ wordBits s q g → l ≡ located s
+        → l .lost ≡ lostAt (loss s q m) → l .words ≡ wordErrors s q g → l .wordbits ≡ wordBits s q g
+        → l .cause ≡ causeOf (loss s q m) → l ≡ located s
     unfolding located
-    located-so l h₀ h₁ h₂ h₃ h₄ h₅ h₆ h₇ =
+    located-so l h₀ h₁ h₂ h₃ h₄ h₅ h₆ h₇ h₈ =
         let d = measured in
         let its : l ≡ found s = λ i.
         record {
@@ -63,6 +65,7 @@ module _ (s : List ℕ) (good : GoodLength s) (p k : ℕ) (e : firstStanding s �
           lost = (h₅ ∙ ap₂ (λ x y. lostAt (loss s x y)) (d .at) (d .of)) i;
           words = (h₆ ∙ ap₂ (wordErrors s) (d .at) (d .upto)) i;
           wordbits = (h₇ ∙ ap₂ (wordBits s) (d .at) (d .upto)) i;
+          cause = (h₈ ∙ ap₂ (λ x y. causeOf (loss s x y)) (d .at) (d .of)) i;
         } in
         its ∙ sym (accepted-so (firstOf (unplaced s)) (found s) _ (placed-0 s good (record { place = p; k = k }) e))
 
@@ -154,11 +157,12 @@ module _ (s : List ℕ) (l : Located) (h : l ≡ located s) where
         → r .errored ≡ errored s (l .start) (l .used)
         → r .farend ≡ farEnd s (l .start) (l .used)
         → r .wordbits ≡ l .wordbits
+        → r .cause ≡ l .cause
         → payload' ≡ payloadOf s (l .start) (l .used) ++ drop (496 * l .used) payload
         → slot0' ≡ slot0Of s (l .start) (l .used) ++ drop (16 * l .used) slot0
         → Read s payload slot0 r payload' slot0'
     unfolding reading accept
-    answered payload' slot0' r n h₀ h₁ h₂ h₃ h₄ h₅ h₆ h₇ h₈ h₉ h₁₀ ep eo =
+    answered payload' slot0' r n h₀ h₁ h₂ h₃ h₄ h₅ h₆ h₇ h₈ h₉ h₁₀ h₁₁ ep eo =
         let d = places z in
         let k = refusal s (length payload) (length slot0) in
         let its : r ≡ accept s = λ i.
@@ -174,6 +178,7 @@ module _ (s : List ℕ) (l : Located) (h : l ≡ located s) where
           errored = (h₈ ∙ ap₂ (errored s) (d .at) (d .upto)) i;
           farend = (h₉ ∙ ap₂ (farEnd s) (d .at) (d .upto)) i;
           wordbits = (h₁₀ ∙ ap (λ (x : Located). x .wordbits) (d .its)) i;
+          cause = (h₁₁ ∙ ap (λ (x : Located). x .cause) (d .its)) i;
         } in
         let wholly = payloadOf s (startIn s) (usedIn s) ++ drop (496 * usedIn s) payload in
         let slots = slot0Of s (startIn s) (usedIn s) ++ drop (16 * usedIn s) slot0 in

@@ -9,8 +9,8 @@ use lib.ListN.{length, drop}
 use Rattle.align.specs.Place.{foundIn, numberOf, placeOf, startOf}
 use Rattle.base.specs.Answer.{accepted, Refusal, _when_, firstOf}
 use Rattle.base.specs.Choice.{if_then_else_}
-use Rattle.read.specs.Reading.{whole, loss, lostAt, usedOf, payloadOf, slot0Of, wordErrors, wordBits, compared}
-use Rattle.read.specs.Reading.{errored, farEnd}
+use Rattle.read.specs.Reading.{whole, loss, lostAt, causeOf, usedOf, payloadOf, slot0Of, wordErrors, wordBits}
+use Rattle.read.specs.Reading.{compared, errored, farEnd}
 use Rattle.read.specs.declared.Located.{Located}
 use Rattle.read.specs.declared.Reading.{Reading}
 
@@ -66,6 +66,7 @@ accept s =
       errored = errored s (startIn s) (usedIn s);
       farend = farEnd s (startIn s) (usedIn s);
       wordbits = wordBits s (startIn s) (usedIn s);
+      cause = causeOf (lossIn s);
     }
 
 -- a refusal: zeros beside the number and the place
@@ -83,6 +84,7 @@ refuse n p =
       errored = 0;
       farend = 0;
       wordbits = 0;
+      cause = 0;
     }
 
 -- the place beside the number n: number 15 alone has one, the first place with basic alignment
@@ -115,10 +117,12 @@ found s =
       lost = lostAt (lossIn s);
       words = wordErrors s (startIn s) (usedIn s);
       wordbits = wordBits s (startIn s) (usedIn s);
+      cause = causeOf (lossIn s);
     }
 
 abbrev pub nowhere : ℕ → ℕ → Located
-nowhere n p = record { number = n; place = p; start = 0; whole = 0; used = 0; lost = 0; words = 0; wordbits = 0 }
+nowhere n p =
+    record { number = n; place = p; start = 0; whole = 0; used = 0; lost = 0; words = 0; wordbits = 0; cause = 0 }
 
 unfoldable pub located : List ℕ → Located
 located s =

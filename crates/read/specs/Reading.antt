@@ -1,13 +1,14 @@
 -- What is read from a multiframe start q on (KIT §5), in an image of any length. Frames are numbered from q; m and g
 -- are numbers of multiframes.
-use Prim.Native.Nat.{ℕ, _+_, _-_, _*_, _/_}
+use Prim.Native.Nat.{ℕ, _+_, _-_, _*_, _/_, _%_}
 use mathlib.Core.Bool.{Bool, _&&_, not}
 use mathlib.Core.List.{List}
 use mathlib.Core.Option.{Option, none, some}
 use lib.Dec.{eqb, leb}
 use lib.ListN.{length}
 use Rattle.line.specs.Bit.{bitAt, octetAt}
-use Rattle.base.specs.Tab.{tab, sum, count, least}
+use Rattle.base.specs.Choice.{if_then_else_, whenSo}
+use Rattle.base.specs.Tab.{tab, sum, count, first}
 use Rattle.e1.specs.Frame.{frameAt, slotAt, wrongBits}
 use Rattle.e1.specs.Block.{agrees}
 use Rattle.e1.specs.Payload.{frameOf, slotOf}
@@ -24,22 +25,45 @@ wrongBitsOf s q i = wrongBits s (frameAt q (2 * i))
 unfoldable pub wrong : List ℕ → ℕ → ℕ → Bool
 wrong s q i = not (eqb (wrongBitsOf s q i) 0)
 
--- the words of f - 4, f - 2 and f are all wrong, f = 2i at least 4
-unfoldable pub threeWrong : List ℕ → ℕ → ℕ → Bool
-threeWrong s q i = leb 2 i && (wrong s q (i - 2) && (wrong s q (i - 1) && wrong s q i))
+-- bit 2 of the odd frame 2i + 1 is wrong: it is 0
+unfoldable pub wrongBit2 : List ℕ → ℕ → ℕ → Bool
+wrongBit2 s q i = eqb (bitAt s (frameAt q (2 * i + 1) + 1)) 0
 
--- the loss: the first such i among the frames of m multiframes
+-- i is the third in a row that passes the test
+unfoldable pub third : (ℕ → Bool) → ℕ → Bool
+third t i = leb 2 i && (t (i - 2) && (t (i - 1) && t i))
+
+-- the loss by words: the first even frame 2i of m multiframes that is the third in a row with a wrong word
+unfoldable pub wordLoss : List ℕ → ℕ → ℕ → Option ℕ
+wordLoss s q m = first (8 * m) (λ i. whenSo (third (wrong s q) i) (2 * i))
+
+-- the loss by bits 2: the first odd frame 2i + 1 of m multiframes that is the third in a row with a wrong bit 2
+unfoldable pub bit2Loss : List ℕ → ℕ → ℕ → Option ℕ
+bit2Loss s q m = first (8 * m) (λ i. whenSo (third (wrongBit2 s q) i) (2 * i + 1))
+
+-- the earlier of two frames, where there are any
+abbrev pub earlier : Option ℕ → Option ℕ → Option ℕ
+earlier none g = g
+earlier (some f) none = some f
+earlier (some f) (some g) = some (if leb f g then f else g)
+
+-- the frame of the loss
 unfoldable pub loss : List ℕ → ℕ → ℕ → Option ℕ
-loss s q m = least (8 * m) (threeWrong s q)
+loss s q m = earlier (wordLoss s q m) (bit2Loss s q m)
 
--- its frame, answered as 0 where there is no loss
+-- it is answered as 0 where there is no loss
 abbrev pub lostAt : Option ℕ → ℕ
-lostAt (some i) = 2 * i
+lostAt (some f) = f
 lostAt none = 0
+
+-- its cause: 1 by words, at an even frame, 2 by bits 2, at an odd one; 0 where there is no loss
+abbrev pub causeOf : Option ℕ → ℕ
+causeOf (some f) = 1 + f % 2
+causeOf none = 0
 
 -- G: the number of the multiframe that holds that frame, or m where there is no loss
 abbrev pub usedOf : Option ℕ → ℕ → ℕ
-usedOf (some i) m = 2 * i / 16
+usedOf (some f) m = f / 16
 usedOf none m = m
 
 -- slots 1 to 31 of n frames, in the payload's order

@@ -3,12 +3,14 @@ ghost use mathlib.Core.Path.{_≡_};
 ghost use mathlib.Core.List.{_++_};
 ghost use mathlib.Core.Option.{some};
 ghost use Prim.Native.Nat.{_+_, _*_, _^_, _<_, _≤_};
+ghost use lib.Dec.{eqb};
 ghost use lib.ListN.{length, drop};
 ghost use Rattle.line.specs.Bit.{Room, octetAt};
+ghost use Rattle.base.specs.Choice.{if_then_else_};
 ghost use Rattle.base.specs.Tab.{tab};
 ghost use Rattle.align.specs.Place.{firstStanding};
-ghost use Rattle.read.specs.Reading.{loss, lostAt, usedOf, slots, payloadOf, slot0Of, wordErrors, wordBits};
-ghost use Rattle.read.specs.Reading.{compared, errored, zerosE, farEnd};
+ghost use Rattle.read.specs.Reading.{loss, lostAt, causeOf, usedOf, slots, payloadOf, slot0Of};
+ghost use Rattle.read.specs.Reading.{wordErrors, wordBits, compared, errored, zerosE, farEnd};
 ghost use Rattle.read.specs.Entry.{Read, GoodLength, refuse, nowhere, located};
 
 // What is read: the number is 0, or the refusal's with zeros beside it; with 15 the place is that of `Found::BasicAt`.
@@ -24,6 +26,7 @@ pub struct Reading {
     pub errored: usize,
     pub farend: usize,
     pub wordbits: usize,
+    pub cause: u64,
 }
 
 // Where an image is read from, and how far: the number is 0, or the refusal's with zeros beside it; with 15 the place is
@@ -37,12 +40,23 @@ pub struct Located {
     pub lost: usize,
     pub words: usize,
     pub wordbits: usize,
+    pub cause: u64,
 }
 
-// What the alignment words tell.
+// What the alignment words and bits 2 tell.
 struct Tracked {
     lost: usize,
+    cause: u64,
     used: usize,
+    words: usize,
+    wordbits: usize,
+}
+
+// What is kept from frame to frame: wrong words in a row and wrong bits 2 in a row, each run its own; and the wrong words
+// so far, with their wrong bits.
+struct Tracking {
+    wordrun: usize,
+    bit2run: usize,
     words: usize,
     wordbits: usize,
 }
@@ -53,45 +67,93 @@ struct Judged {
     errored: usize,
 }
 
+// an even frame goes by, with so many wrong bits in its word
+fn after_word(t: Tracking, wrong: u32) -> Tracking
+    requires { ⌜ (t .wordrun < 3) × (t .bit2run < 3) × (t .words < 2 ^ 60) × (t .wordbits < 2 ^ 60) × (wrong ≤ 7) ⌝ }
+    ensures { λ r. ⌜ (r .wordrun ≡ (if eqb wrong 0 then 0 else t .wordrun + 1))
+        × (r .bit2run ≡ t .bit2run)
+        × (r .words ≡ t .words + (if eqb wrong 0 then 0 else 1))
+        × (r .wordbits ≡ t .wordbits + wrong) ⌝ }
+{
+    let mut next = t;
+    if wrong == 0 {
+        next.wordrun = 0;
+        return next;
+    }
+    next.wordrun = t.wordrun + 1;
+    next.words = t.words + 1;
+    next.wordbits = t.wordbits + wrong as usize;
+    next
+}
+
+// an odd frame goes by, with this bit 2; with `next` on both ways it compiles to three instructions more a frame
+fn after_bit2(t: Tracking, bit: u8) -> Tracking
+    requires { ⌜ (t .wordrun < 3) × (t .bit2run < 3) ⌝ }
+    ensures { λ r. ⌜ (r .wordrun ≡ t .wordrun)
+        × (r .bit2run ≡ (if eqb bit 0 then t .bit2run + 1 else 0))
+        × (r .words ≡ t .words)
+        × (r .wordbits ≡ t .wordbits) ⌝ }
+{
+    if bit != 0 {
+        let mut next = t;
+        next.bit2run = 0;
+        return next;
+    }
+    Tracking {
+        wordrun: t.wordrun,
+        bit2run: t.bit2run + 1,
+        words: t.words,
+        wordbits: t.wordbits,
+    }
+}
+
 // the loss in m multiframes, those used, and their wrong words and bits; each word is judged once, and counts where its
 // multiframe is whole
 fn track(s: &[u8], q: usize, m: usize) -> Tracked
     requires { ⌜ Room (now s) q (4096 * m) ⌝ }
     ensures { λ r. ⌜ (r .lost ≡ lostAt (loss (now (s .entry)) q m))
+        × (r .cause ≡ causeOf (loss (now (s .entry)) q m))
         × (r .used ≡ usedOf (loss (now (s .entry)) q m) m)
         × (r .words ≡ wordErrors (now (s .entry)) q (r .used))
         × (r .wordbits ≡ wordBits (now (s .entry)) q (r .used)) ⌝ }
 {
-    let mut earlier = false;
-    let mut last = false;
-    let mut n: usize = 0;
-    let mut bits: usize = 0;
+    let mut t = Tracking {
+        wordrun: 0,
+        bit2run: 0,
+        words: 0,
+        wordbits: 0,
+    };
     let mut words: usize = 0;
     let mut wordbits: usize = 0;
     for g in 0..m {
         for i in 8 * g..8 * g + 8 {
-            let wrong = e1::wrong_bits(s, q + 256 * (2 * i));
-            let this = wrong != 0;
-            if earlier & (last & this) {
+            t = after_word(t, e1::wrong_bits(s, q + 256 * (2 * i)));
+            if t.wordrun == 3 {
                 return Tracked {
                     lost: 2 * i,
+                    cause: 1,
                     used: g,
                     words: words,
                     wordbits: wordbits,
                 };
             }
-            if this {
-                n += 1;
+            t = after_bit2(t, line::bit(s, q + 256 * (2 * i + 1) + 1));
+            if t.bit2run == 3 {
+                return Tracked {
+                    lost: 2 * i + 1,
+                    cause: 2,
+                    used: g,
+                    words: words,
+                    wordbits: wordbits,
+                };
             }
-            bits += wrong as usize;
-            earlier = last;
-            last = this;
         }
-        words = n;
-        wordbits = bits;
+        words = t.words;
+        wordbits = t.wordbits;
     }
     Tracked {
         lost: 0,
+        cause: 0,
         used: m,
         words: words,
         wordbits: wordbits,
@@ -239,6 +301,7 @@ fn refused(number: u64, at: usize) -> Reading
         errored: 0,
         farend: 0,
         wordbits: 0,
+        cause: 0,
     }
 }
 
@@ -255,6 +318,7 @@ fn nowhere(number: u64, at: usize) -> Located
         lost: 0,
         words: 0,
         wordbits: 0,
+        cause: 0,
     }
 }
 
@@ -275,6 +339,7 @@ fn located_at(image: &[u8], place: usize, k: usize) -> Located
         lost: tracked.lost,
         words: tracked.words,
         wordbits: tracked.wordbits,
+        cause: tracked.cause,
     }
 }
 
@@ -326,5 +391,6 @@ pub fn read(image: &[u8], payload: &mut [u8], slot0: &mut [u8]) -> Reading
         errored: judged.errored,
         farend: farend,
         wordbits: located.wordbits,
+        cause: located.cause,
     }
 }

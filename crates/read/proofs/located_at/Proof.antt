@@ -17,8 +17,8 @@ returns : tie.Need-returns
 returns c =
     let d = c .before .before in
     let e = c .track .ensures in
-    located-so (d .args .image .now) (d .pre .0) (d .args .place) (d .args .k) (d .pre .1) _ _ (c .track .result .used) refl refl (e .1)
-    _ refl refl refl refl refl (e .0) (e .2) (e .3)
+    located-so (d .args .image .now) (d .pre .0) (d .args .place) (d .args .k) (d .pre .1) _ _ (c .track .result .used) refl refl (e .2)
+    _ refl refl refl refl refl (e .0) (e .3) (e .4) (e .1)
 
 pub located-at-spec : {M : Type 1} → statement M
 located-at-spec =

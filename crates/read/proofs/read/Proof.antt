@@ -62,7 +62,7 @@ returns-3 c =
     (j .judge .ensures .0)
     (j .judge .ensures .1)
     (f .far-end .ensures)
-    refl
+    refl refl
     (y .payload-of .ensures)
     (z .slot0-of .ensures)
 
