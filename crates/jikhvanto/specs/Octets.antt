@@ -55,7 +55,7 @@ unfoldable pub readingPlaces : Reading → List ℕ
 readingPlaces r =
     answerOf
     (r .number ∷ r .place ∷ r .start ∷ r .whole ∷ r .used ∷ r .lost
-    ∷ r .words ∷ r .compared ∷ r .errored ∷ r .farend ∷ r .wordbits ∷ [])
+    ∷ r .words ∷ r .compared ∷ r .errored ∷ r .farend ∷ r .wordbits ∷ r .cause ∷ [])
 
 unfoldable pub signallingPlaces : Signalling → List ℕ
 signallingPlaces r =

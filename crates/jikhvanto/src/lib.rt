@@ -108,6 +108,7 @@ fn give_reading(r: Reading, answer: &mut [u64; 16])
     answer[8] = r.errored as u64;
     answer[9] = r.farend as u64;
     answer[10] = r.wordbits as u64;
+    answer[11] = r.cause;
 }
 
 // a reading of signalling, in its places

@@ -21,4 +21,5 @@ give-reading-spec =
     (search needs)
     (search needs)
     (search needs)
+    (search needs)
     (λ c. refl))
