@@ -20,7 +20,7 @@ use Rattle.e1.specs.Block.{agrees}
 use Rattle.read.specs.Entry.{accept, startIn, usedIn, Read}
 use Rattle.read.specs.Reading.{wrong, wordErrors, wordBits, compared, agreesIn, errored, zerosE, farEnd}
 use Rattle.read.specs.declared.Reading.{Reading}
-use Rattle.read.proofs.Laws.{wrong-word}
+use Rattle.read.proofs.LossLaws.{wrong-word}
 use Rattle.read.proofs.EntryLaws.{read-accepted, read-either}
 use Rattle.claims.specs.Counts.{Counted, Agrees, WrongWord, WrongBit, bitEAt, FarError, Counts}
 use Rattle.claims.proofs.WordBits.{wrongIn, bits-counted, bits-least, bits-most, one-more-bit}

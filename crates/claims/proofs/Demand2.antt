@@ -20,8 +20,8 @@ use Rattle.align.specs.Place.{firstBasic, foundIn}
 use Rattle.align.specs.Stands.{Basic, BasicFirst, Stands}
 use Rattle.align.specs.declared.Found.{Found}
 use Rattle.align.specs.declared.Found.the-variants.{At, BasicAt, Nothing}
-use Rattle.read.specs.Reading.{whole, loss, lostAt, usedOf, slots, payloadOf, slot0Of, wordErrors, wordBits, compared}
-use Rattle.read.specs.Reading.{errored, zerosE, farEnd}
+use Rattle.read.specs.Reading.{whole, loss, lostAt, causeOf, usedOf, slots, payloadOf, slot0Of, wordErrors, wordBits}
+use Rattle.read.specs.Reading.{compared, errored, zerosE, farEnd}
 use Rattle.read.specs.Entry as reading
 use Rattle.read.specs.Entry.{Read, GoodLength}
 use Rattle.read.proofs.Laws as reads
@@ -83,7 +83,7 @@ module _ (s payload slot0 : List ℕ) (r : Reading) (payload' slot0' : List ℕ)
       ∙ List·getD-append o (drop (16 * r .used) slot0) 0 f (omega (arith, reads.slot0-length s (r .start) (r .used)))
       ∙ reads.slot0-of s (r .start) (16 * r .used) f l
 
-  reads-so : Accepted s payload slot0 r payload' slot0'
+  pub reads-so : Accepted s payload slot0 r payload' slot0'
   unfolding reading.accept reading.startIn
   reads-so =
       let d = read-place s payload slot0 r payload' slot0' h z in
@@ -94,6 +94,7 @@ module _ (s payload slot0 : List ℕ) (r : Reading) (payload' slot0' : List ℕ)
         start = from;
         all-whole = all ∙ sym (ap (whole s) from);
         lost = got (λ x. x .lost) ∙ sym (ap₂ (λ x y. lostAt (loss s x y)) from all);
+        cause = got (λ x. x .cause) ∙ sym (ap₂ (λ x y. causeOf (loss s x y)) from all);
         used = upto ∙ sym (ap₂ (λ x y. usedOf (loss s x y) y) from all);
         words = got (λ x. x .words) ∙ sym (ap₂ (wordErrors s) from upto);
         word-bits = got (λ x. x .wordbits) ∙ sym (ap₂ (wordBits s) from upto);
@@ -206,6 +207,7 @@ module _ (p o : List ℕ) (c n : ℕ) (g : Inputs p o c n) where
               whole = all line payload slot0 r payload' slot0' h number ∙ whole-n;
               used = all-n;
               lost = value (λ x. x .lost) ∙ ap lostAt no-loss;
+              cause = value (λ x. x .cause) ∙ ap causeOf no-loss;
               words = a .words ∙ ap₂ (wordErrors line) at-0 all-n ∙ unbroken.no-word-errors line n framed;
               wordbits = a .word-bits ∙ ap₂ (wordBits line) at-0 all-n ∙ unbroken.no-word-bits line n framed;
               compared = a .compares ∙ ap compared all-n;
@@ -277,10 +279,6 @@ pub demand-2 : Demand2
 demand-2 =
     record {
       reads = reads-so;
-      loss = λ s payload slot0 r payload' slot0' h z i l.
-          let a = reads-so s payload slot0 r payload' slot0' h z in
-          let e = reads.lost-at s (r .start) (r .whole) i l in
-          (λ w. e .0 (sym (a .lost) ∙ w), λ w. a .lost ∙ e .1 w);
       none = λ s payload slot0 r payload' slot0' good h. none-so s payload slot0 r payload' slot0' h good;
       none-at-all = λ s payload slot0 r payload' slot0' good h.
           Iff·trans (none-so s payload slot0 r payload' slot0' h good) (none-at-all s);

@@ -1,6 +1,6 @@
 -- What is read from a line that stands whole: every word, every bit 2, every signal and every check in its place.
-use Prim.Native.Nat.{ℕ, _+_, _-_, _*_, _≤_, _<_}
-use mathlib.Core.Path.{_≡_, refl, ap, _∙_}
+use Prim.Native.Nat.{ℕ, _+_, _*_, _≤_, _<_}
+use mathlib.Core.Path.{_≡_, refl, ap, ap₂, _∙_}
 use mathlib.Core.Bool.{Bool, true, false, _&&_, not, cond}
 use mathlib.Core.List.{List}
 use mathlib.Core.Option.{Option, none, some}
@@ -11,12 +11,14 @@ use lib.Dec.{eqb, leb, lit<}
 use lib.ListN.{length, getD}
 use Rattle.line.specs.Bit.{bitAt}
 use Rattle.base.specs.Tab.{first, least}
-use Rattle.base.proofs.TabLaws.{some-first, some-least, none-least, at-all, sum-none}
+use Rattle.base.proofs.TabLaws.{some-first, some-least, at-all, sum-none}
 use Rattle.e1.specs.Frame.{frameAt, wordAt, signal}
 use Rattle.e1.specs.Block.{agrees}
 use Rattle.align.specs.Place.{basic, mark, signalAt, pairAt, withPlace, standing, firstStanding}
-use Rattle.read.specs.Reading.{whole, wrongBitsOf, wrong, threeWrong, loss, wordErrors, wordBits, compared, agreesIn}
-use Rattle.read.specs.Reading.{errored}
+use Rattle.read.specs.Reading.{whole, wrongBitsOf, wrong, wrongBit2, wordLoss, bit2Loss, earlier, loss, wordErrors}
+use Rattle.read.specs.Reading.{wordBits, compared, agreesIn, errored}
+use Rattle.read.proofs.LossLaws.{right-bit-2}
+use Rattle.read.proofs.Runs.{never-third}
 
 -- a line of n multiframes, its first bit that of a frame 0
 pub record Framed (s : List ℕ) (n : ℕ) : Type 0 where
@@ -28,12 +30,6 @@ pub record Framed (s : List ℕ) (n : ℕ) : Type 0 where
 
 all-three : (a b c : Bool) → a ≡ true → b ≡ true → c ≡ true → a && (b && c) ≡ true
 all-three a b c p q r = rw (p, q, r)
-
-last-false : (a b c d : Bool) → d ≡ false → a && (b && (c && d)) ≡ false
-last-false false b c d e = refl
-last-false true false c d e = refl
-last-false true true false d e = refl
-last-false true true true d e = e
 
 stood : (a b : Bool) (o : Option ℕ) → a ≡ true → b ≡ true → o ≡ some 0 → cond (a && b) (withPlace 0 o) none ≡ some (record {
   place =
@@ -82,10 +78,11 @@ module _ (s : List ℕ) (n : ℕ) (h : Framed s n) where
   never-wrong i l = ap not (h .word i l)
 
   pub never-lost : loss s 0 n ≡ none
-  unfolding loss threeWrong
+  unfolding loss wordLoss bit2Loss
   never-lost =
-      none-least (8 * n) (threeWrong s 0)
-      (λ i l. last-false (leb 2 i) (wrong s 0 (i - 2)) (wrong s 0 (i - 1)) (wrong s 0 i) (never-wrong i l))
+      ap₂ earlier
+      (never-third (wrong s 0) (λ i. 2 * i) (8 * n) never-wrong)
+      (never-third (wrongBit2 s 0) (λ i. 2 * i + 1) (8 * n) (λ i l. right-bit-2 s 0 i (h .bit-2 i l)))
 
   pub no-word-errors : wordErrors s 0 n ≡ 0
   unfolding wordErrors

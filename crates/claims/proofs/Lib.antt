@@ -6,6 +6,7 @@ pub mod Counts
 pub mod Demand1
 pub mod Demand2
 pub mod Demand3
+pub mod Losses
 pub mod Accepts
 pub mod Reasons
 pub mod Regular

@@ -3,6 +3,7 @@ use Rattle.claims.specs.Promises.{Promises}
 use Rattle.claims.proofs.Demand1.{demand-1}
 use Rattle.claims.proofs.Demand2.{demand-2}
 use Rattle.claims.proofs.Demand3.{demand-3}
+use Rattle.claims.proofs.Losses.{losses}
 use Rattle.claims.proofs.Counts.{counts}
 use Rattle.claims.proofs.Accepts.{accepts}
 use Rattle.claims.proofs.Reasons.{reasons}
@@ -17,6 +18,7 @@ promises =
       demand-1 = demand-1;
       demand-2 = demand-2;
       demand-3 = demand-3;
+      losses = losses;
       counts = counts;
       accepts = accepts;
       reasons = reasons;

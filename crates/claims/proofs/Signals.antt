@@ -16,7 +16,7 @@ use Rattle.e1.specs.Payload.{multiframes}
 use Rattle.read.specs.Entry.{startIn, wholeIn, usedIn, Read}
 use Rattle.read.specs.Reading.{whole}
 use Rattle.read.specs.declared.Reading.{Reading}
-use Rattle.read.proofs.Laws.{used-le}
+use Rattle.read.proofs.LossLaws.{used-le}
 use Rattle.write.specs.Writing.{written}
 use Rattle.write.specs.Inputs.{Inputs}
 use Rattle.write.specs.declared.Written.{Written}

@@ -15,8 +15,7 @@ use Rattle.e1.specs.Payload.{indexOf, multiframes}
 use Rattle.align.specs.Place.{foundIn, startOf}
 use Rattle.align.specs.Stands.{Basic, BasicFirst, Pair, Stands, StandsFirst}
 use Rattle.align.specs.declared.Found.the-variants.{At, BasicAt, Nothing}
-use Rattle.read.specs.Reading.{whole, loss, lostAt, usedOf, wordErrors, wordBits, compared, errored, farEnd}
-use Rattle.read.specs.Loss.{Loss}
+use Rattle.read.specs.Reading.{whole, loss, lostAt, causeOf, usedOf, wordErrors, wordBits, compared, errored, farEnd}
 use Rattle.read.specs.Entry.{Read, GoodLength}
 use Rattle.read.specs.declared.Reading.{Reading}
 use Rattle.write.specs.Entry.{Wrote}
@@ -33,6 +32,7 @@ pub record Accepted (s payload slot0 : List ℕ) (r : Reading) (payload' slot0' 
   pub start : r .start ≡ startOf (foundIn s)
   pub all-whole : r .whole ≡ whole s (r .start)
   pub lost : r .lost ≡ lostAt (loss s (r .start) (r .whole))
+  pub cause : r .cause ≡ causeOf (loss s (r .start) (r .whole))
   pub used : r .used ≡ usedOf (loss s (r .start) (r .whole)) (r .whole)
   pub words : r .words ≡ wordErrors s (r .start) (r .used)
   pub word-bits : r .wordbits ≡ wordBits s (r .start) (r .used)
@@ -80,6 +80,7 @@ pub record ReadBack (p o : List ℕ) (n : ℕ) (r : Reading) (payload' slot0' : 
   pub whole : r .whole ≡ n
   pub used : r .used ≡ n
   pub lost : r .lost ≡ 0
+  pub cause : r .cause ≡ 0
   pub words : r .words ≡ 0
   pub wordbits : r .wordbits ≡ 0
   pub compared : r .compared ≡ 2 * n - 1
@@ -92,10 +93,6 @@ pub record Demand2 : Type 0 where
   -- the first place that stands, every count and every payload octet as defined
   pub reads : (s payload slot0 : List ℕ) (r : Reading) (payload' slot0' : List ℕ)
       → Read s payload slot0 r payload' slot0' → r .number ≡ 0 → Accepted s payload slot0 r payload' slot0'
-  -- a loss is answered exactly where the words say, and 0 where they never do
-  pub loss : (s payload slot0 : List ℕ) (r : Reading) (payload' slot0' : List ℕ)
-      → Read s payload slot0 r payload' slot0' → r .number ≡ 0
-      → (i : ℕ) → 0 < i → r .lost ≡ 2 * i ↔ Loss s (r .start) (r .whole) i
   -- no alignment answered, by number 3 or 15, exactly when none stands: nowhere is there room, basic alignment and some
   -- k with a pair of signals
   pub none : (s payload slot0 : List ℕ) (r : Reading) (payload' slot0' : List ℕ) → GoodLength s

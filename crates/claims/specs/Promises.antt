@@ -2,6 +2,7 @@
 use Rattle.claims.specs.Demand1.{Demand1}
 use Rattle.claims.specs.Demand2.{Demand2}
 use Rattle.claims.specs.Demand3.{Demand3}
+use Rattle.claims.specs.Losses.{Losses}
 use Rattle.claims.specs.Counts.{Counts}
 use Rattle.claims.specs.Accepts.{Accepts}
 use Rattle.claims.specs.Reasons.{Reasons}
@@ -14,6 +15,7 @@ pub record Promises : Type 0 where
   pub demand-1 : Demand1
   pub demand-2 : Demand2
   pub demand-3 : Demand3
+  pub losses : Losses
   pub counts : Counts
   pub accepts : Accepts
   pub reasons : Reasons
