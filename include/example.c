@@ -15,7 +15,7 @@ static enum status failed(const char *what)
     return FAILED;
 }
 
-/* The lines of a report. */
+/* The lines of a report; that of a loss is followed by its cause. */
 static const struct {
     const char *name;
     enum jk_place place;
@@ -36,6 +36,8 @@ static void print(const uint64_t answer[JK_ANSWER])
             printf("lost no\n");
         else
             printf("%s %lu\n", line[i].name, (unsigned long)value);
+        if (line[i].place == JK_LOST && value != 0)
+            printf("cause %s\n", answer[JK_CAUSE] == JK_CAUSE_WORD ? "word" : "bit2");
     }
 }
 

@@ -19,7 +19,10 @@
  *   - since 0.4.0 JK_FAREND counts every E bit that is 0 in the multiframes used; before, it left out multiframes whose
  *     second block was not compared or did not agree;
  *   - since 0.5.0 number 3 is split: where no place stands it is JK_BASIC_ONLY, 15, with the first place that has room
- *     and basic alignment, and JK_NO_PLACE, 3, only where none has; before, it was 3 in either case.
+ *     and basic alignment, and JK_NO_PLACE, 3, only where none has; before, it was 3 in either case;
+ *   - since 0.7.0 alignment is also lost at the third odd frame in a row with a bit 2 of 0 (G.706 4.1.1), so JK_LOST
+ *     may be odd, JK_USED and the counts after it smaller, and jk_signals may have fewer multiframes to read; before,
+ *     it was lost by words alone.
  * New numbers and places are only ever added at the end: numbers after the last, places after a call's last value,
  * where today it gives zeros.
  */
@@ -30,9 +33,9 @@
 #include <stdint.h>
 
 #define JK_VERSION_MAJOR 0
-#define JK_VERSION_MINOR 6
+#define JK_VERSION_MINOR 7
 #define JK_VERSION_PATCH 0
-#define JK_VERSION "0.6.0"
+#define JK_VERSION "0.7.0"
 
 #define JK_ANSWER 16 /* places of an answer */
 #define JK_STATE 99  /* octets of a state */
@@ -67,12 +70,13 @@ enum jk_place {
     JK_START = 2,     /* the bit at which the first multiframe starts */
     JK_WHOLE = 3,     /* whole multiframes from there to the end of the image */
     JK_USED = 4,      /* those before the one in which alignment is lost */
-    JK_LOST = 5,      /* the frame, numbered from the start, at which it is lost; 0 where it is not */
+    JK_LOST = 5,      /* the frame, numbered from the start, at which it is lost, even or odd; 0 where it is not */
     JK_WORDS = 6,     /* wrong alignment words in the multiframes used */
     JK_COMPARED = 7,  /* blocks compared with the check bits after them */
     JK_ERRORED = 8,   /* those of them that differ */
     JK_FAREND = 9,    /* E bits that are 0 in the multiframes used */
     JK_WORDBITS = 10, /* wrong bits of the alignment words in the multiframes used, 1 to 7 for each wrong word */
+    JK_CAUSE = 11,    /* by what alignment is lost, of enum jk_cause */
 
     /* jk_signals */
     JK_MULTIFRAMES = 1, /* signalling multiframes read */
@@ -94,6 +98,16 @@ enum jk_place {
 
     /* jk_host */
     JK_ENTRY = 1      /* the entry that a record of kind 3 reads, 0 for any other */
+};
+
+/*
+ * By what alignment is lost. Words and bits 2 go by runs of their own, and it is lost at the first frame that is the
+ * third in a row of either.
+ */
+enum jk_cause {
+    JK_CAUSE_NONE = 0, /* it is not lost, and JK_LOST is 0 */
+    JK_CAUSE_WORD = 1, /* three even frames in a row have a wrong alignment word; JK_LOST is even */
+    JK_CAUSE_BIT2 = 2  /* three odd frames in a row have a bit 2 of 0; JK_LOST is odd */
 };
 
 /* What is said of a place p: that it stands, or which condition it fails first. */
@@ -120,7 +134,7 @@ extern "C" {
 /*
  * Reads an image, whose bit 0 is the most significant bit of its first octet, from the first place that stands.
  * payload takes slots 1 to 31, 496 octets a multiframe used, and slot0 takes 16 a multiframe: 7,936 and 256 always do.
- * answer: JK_PLACE to JK_WORDBITS; with 15 JK_PLACE alone
+ * answer: JK_PLACE to JK_CAUSE; with 15 JK_PLACE alone
  * Refused: 1 JK_SHORT_IMAGE, 2 JK_LONG_IMAGE, 3 JK_NO_PLACE, 15 JK_BASIC_ONLY, 4 JK_SHORT_OUTPUT
  */
 uint64_t jk_read(const uint8_t *image, size_t image_octets,

@@ -97,6 +97,44 @@ static int reads(const uint64_t expected[JK_ANSWER])
         && !memcmp(answer, expected, sizeof answer);
 }
 
+/* These bits of slot 0 turned over in three frames, the first and every second from it on. */
+static void hit_three(uint8_t *line, int first, uint8_t bits)
+{
+    int frame;
+
+    for (frame = first; frame < first + 6; frame += 2)
+        line[frame * 32] ^= bits;
+}
+
+/* Losses of the image, which is left as it was. */
+static void losing(void)
+{
+    static const uint64_t word[JK_ANSWER] = {JK_ACCEPTED, 0, 0, N, 2, 40, 0, 3, 0, 0, 0, JK_CAUSE_WORD};
+    static const uint64_t bit_2[JK_ANSWER] = {JK_ACCEPTED, 0, 0, N, 2, 39, 0, 3, 0, 0, 0, JK_CAUSE_BIT2};
+    static const uint64_t none_used[JK_ANSWER] = {JK_ACCEPTED, 0, 0, N, 0, 7, 0, 0, 0, 0, 0, JK_CAUSE_BIT2};
+
+    /* the words of frames 36, 38 and 40, then also the bits 2 of frames 37, 39 and 41 */
+    hit_three(image, 36, 0x01);
+    EXPECT(reads(word) && answer[JK_LOST] == 40 && answer[JK_CAUSE] == JK_CAUSE_WORD);
+    hit_three(image, 37, 0x40);
+    EXPECT(reads(word));
+
+    /* that of frame 35 too, so that the third comes before the third word; with little room; and with right words */
+    image[35 * 32] ^= 0x40;
+    EXPECT(reads(bit_2) && answer[JK_LOST] == 39 && answer[JK_CAUSE] == JK_CAUSE_BIT2);
+    REFUSED(jk_read(image, N * 512, back, 2 * 496 - 1, slot0, 2 * 16, answer), JK_SHORT_OUTPUT);
+    hit_three(image, 36, 0x01);
+    EXPECT(reads(bit_2));
+    image[35 * 32] ^= 0x40;
+    hit_three(image, 37, 0x40);
+
+    hit_three(image, 3, 0x40);
+    memset(back, BEFORE, sizeof back);
+    memset(slot0, BEFORE, sizeof slot0);
+    EXPECT(reads(none_used) && untouched(back, sizeof back) && untouched(slot0, sizeof slot0));
+    hit_three(image, 3, 0x40);
+}
+
 static void reading(void)
 {
     static const uint64_t clean[JK_ANSWER] = {JK_ACCEPTED, 0, 0, N, N, 0, 0, 2 * N - 1, 0, 0, 0};
@@ -117,6 +155,8 @@ static void reading(void)
 
     EXPECT(reads(clean) && !memcmp(back, payload, sizeof payload));
     EXPECT(untouched(back + sizeof payload, 1) && slot0[0] == image[0] && slot0[63] == image[63 * 32]);
+    losing();
+    EXPECT(reads(clean) && answer[JK_LOST] == 0 && answer[JK_CAUSE] == JK_CAUSE_NONE);
 
     /* three bits of a word hit, then all seven of one in another block */
     image[20 * 32] ^= 0x07;
@@ -182,6 +222,7 @@ static void unheard(const uint8_t *line)
 static void signalling(void)
 {
     static const uint64_t clean[JK_ANSWER] = {JK_ACCEPTED, 3, 16, 0, 1, 0, 1, 0, 1};
+    static const uint64_t fewer[JK_ANSWER] = {JK_ACCEPTED, 1, 16, 0, 1, 1, 0, 0, 1};
     static const uint64_t wrong[JK_ANSWER] = {JK_ACCEPTED, 3, 16, 0, 1, 1, 0, 1, 1};
     static const uint64_t lost[JK_ANSWER] = {JK_ACCEPTED, 2, 16, 1, 0, 1, 1, 1, 0};
     static const uint64_t late[JK_ANSWER] = {JK_ACCEPTED, 0, 63, 0, 1, 1, 1, 1, 0};
@@ -207,6 +248,11 @@ static void signalling(void)
 
     unheard(line);
     EXPECT(line[48 * 32 + 16] == 6 && hears(line, clean, 90) && !memcmp(back, abcd + 30, 90));
+
+    /* alignment lost by bits 2 in multiframe 2 */
+    hit_three(line, 35, 0x40);
+    EXPECT(hears(line, fewer, 30) && !memcmp(back, abcd + 30, 30));
+    hit_three(line, 35, 0x40);
 
     /* the last signal wrong, and the one before too; then the last frame's alone; then none */
     line[48 * 32 + 16] = 0xDD;

@@ -2,7 +2,7 @@
 //! prints its report. It ends with status 0; with 1 where the line is refused;
 //! with 2 where the line could not be read or the report not be written.
 
-use jikhvanto::{Reading, Refusal};
+use jikhvanto::{Cause, Reading, Refusal};
 use std::env;
 use std::fs::File;
 use std::io::{self, Read, Write};
@@ -53,12 +53,17 @@ fn report(r: &Reading) -> String {
         Some(frame) => frame.to_string(),
         None => "no".to_string(),
     };
+    let cause = match r.cause {
+        Some(Cause::Word) => "cause word\n",
+        Some(Cause::Bit2) => "cause bit2\n",
+        None => "",
+    };
     [
         format!("place {}\n", r.place),
         format!("start {}\n", r.start),
         format!("whole {}\n", r.whole),
         format!("used {}\n", r.used),
-        format!("lost {lost}\n"),
+        format!("lost {lost}\n{cause}"),
         format!("words {}\n", r.words),
         format!("wordbits {}\n", r.wordbits),
         format!("compared {}\n", r.compared),

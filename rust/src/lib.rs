@@ -27,7 +27,8 @@ pub struct Reading {
     pub whole: usize,
     /// Those before the one in which alignment is lost.
     pub used: usize,
-    /// The frame, numbered from the start, at which alignment is lost.
+    /// The frame, numbered from the start, at which alignment is lost, even or
+    /// odd as [`cause`](Reading::cause) says.
     pub lost: Option<usize>,
     /// Wrong alignment words in the multiframes used.
     pub words: usize,
@@ -40,6 +41,36 @@ pub struct Reading {
     /// Wrong bits of the alignment words in the multiframes used, 1 to 7 for
     /// each wrong word.
     pub wordbits: usize,
+    /// By what alignment is lost; none where it is not.
+    pub cause: Option<Cause>,
+}
+
+/// By what alignment is lost. Words and bits 2 go by runs of their own, and it
+/// is lost at the first frame that is the third in a row of either.
+#[derive(Clone, Copy, Debug, PartialEq, Eq, Hash)]
+pub enum Cause {
+    /// Three even frames in a row have a wrong alignment word. The frame of
+    /// loss is even.
+    Word,
+    /// Three odd frames in a row have a bit 2 of 0. The frame of loss is odd.
+    Bit2,
+}
+
+impl Cause {
+    /// The cause that an answer of [`jk_read`](sys::jk_read) says; none where
+    /// alignment is not lost or the call is refused.
+    ///
+    /// # Panics
+    ///
+    /// Where it is none that the C header names.
+    pub fn from_answer(answer: &[u64; ANSWER]) -> Option<Cause> {
+        Some(match answer[11] {
+            0 => return None,
+            1 => Cause::Word,
+            2 => Cause::Bit2,
+            cause => panic!("a cause that the header does not name: {cause}"),
+        })
+    }
 }
 
 /// Reads an image, whose bit 0 is the most significant bit of its first octet,
@@ -83,6 +114,7 @@ pub fn read(image: &[u8], payload: &mut [u8], slot0: &mut [u8]) -> Result<Readin
         errored,
         farend,
         wordbits,
+        cause: Cause::from_answer(&answer),
     })
 }
 

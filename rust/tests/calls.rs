@@ -1,6 +1,6 @@
 //! Every call, accepted and with each of its refusals.
 
-use jikhvanto::{kind, read, signals, why, write, write_signalled, Refusal, State, Why};
+use jikhvanto::{kind, read, signals, why, write, write_signalled, Cause, Refusal, State, Why};
 
 const BEFORE: u8 = 0xAA;
 
@@ -23,6 +23,7 @@ fn a_line_is_read_as_it_was_written() {
     assert_eq!((r.place, r.start, r.whole, r.used), (0, 0, 4, 4));
     assert_eq!((r.lost, r.words, r.compared), (None, 0, 7));
     assert_eq!((r.errored, r.farend, r.wordbits), (0, 0, 0));
+    assert_eq!(r.cause, None);
     assert_eq!(slots[..4 * 496], payload(4));
     assert_eq!(slots[4 * 496], BEFORE);
     assert!(slot0
@@ -123,7 +124,48 @@ fn a_loss_is_read() {
     }
     let r = read(&line, &mut [0; 7_936], &mut [0; 256]).unwrap();
     assert_eq!((r.whole, r.used, r.lost, r.words), (4, 2, Some(32), 2));
-    assert_eq!(r.wordbits, 2);
+    assert_eq!((r.wordbits, r.cause), (2, Some(Cause::Word)));
+}
+
+#[test]
+fn a_loss_has_its_cause() {
+    // A bit of the word of each even frame named, and bit 2 of each odd one.
+    let lost = |line: &[u8], frames: &[usize]| {
+        let mut line = line.to_vec();
+        for frame in frames {
+            line[32 * frame] ^= if frame % 2 == 0 { 0x01 } else { 0x40 };
+        }
+        let r = read(&line, &mut [0; 7_936], &mut [0; 256]).unwrap();
+        (r.used, r.lost, r.cause)
+    };
+    let (word, bit2) = (Some(Cause::Word), Some(Cause::Bit2));
+    let four = line(4);
+    assert_eq!(lost(&four, &[3, 5, 7]), (0, Some(7), bit2));
+    assert_eq!(lost(&four, &[59, 61, 63]), (3, Some(63), bit2));
+    assert_eq!(lost(&four, &[58, 60, 62]), (3, Some(62), word));
+    // The earlier of the two.
+    assert_eq!(lost(&four, &[20, 21, 22, 23, 24, 25]), (1, Some(24), word));
+    assert_eq!(lost(&four, &[19, 20, 21, 22, 23, 24]), (1, Some(23), bit2));
+    // Four wrong in a row, but two of each kind; then a right one in between.
+    assert_eq!(lost(&four, &[20, 21, 22, 23]), (4, None, None));
+    assert_eq!(lost(&four, &[19, 21, 25, 27]), (4, None, None));
+    assert_eq!(lost(&four, &[20, 22, 26, 28]), (4, None, None));
+    // From frame 14 on, two frames before the start: those are numbered from it.
+    let late = &line(5)[32 * 14..];
+    assert_eq!(lost(late, &[3, 5, 7]), (0, Some(5), bit2));
+}
+
+#[test]
+fn signalling_is_read_up_to_a_loss() {
+    let mut line = signalled_line(4);
+    for frame in [35, 37, 39] {
+        line[32 * frame] ^= 0x40;
+    }
+    let mut heard = [BEFORE; 31];
+    let s = signals(&line, &mut heard).unwrap();
+    assert_eq!((s.multiframes, s.first, s.held), (1, Some(16), true));
+    assert_eq!(heard[..30], signalling(2).1[30..]);
+    assert_eq!(heard[30], BEFORE);
 }
 
 #[test]

@@ -1,6 +1,6 @@
 //! The names, the numbers and the version are those of the C header.
 
-use jikhvanto::{kind, sys, Refusal, Why};
+use jikhvanto::{kind, sys, Cause, Refusal, Why};
 use std::fmt::Debug;
 
 const HEADER: &str = include_str!("../../include/jikhvanto.h");
@@ -69,6 +69,33 @@ fn refusals() {
 #[should_panic(expected = "does not name: 17")]
 fn no_refusal() {
     refusal(17);
+}
+
+/// The cause with this number, in the place of the header's `JK_CAUSE`.
+fn cause(number: u64) -> Option<Cause> {
+    let places = named("jk_place");
+    let (_, place) = places.iter().find(|(name, _)| *name == "CAUSE").unwrap();
+    let mut answer = [0; sys::ANSWER];
+    answer[*place as usize] = number;
+    Cause::from_answer(&answer)
+}
+
+#[test]
+fn causes() {
+    let causes = [
+        ("CAUSE_NONE", None),
+        ("CAUSE_WORD", Some(Cause::Word)),
+        ("CAUSE_BIT2", Some(Cause::Bit2)),
+    ];
+    let named = named("jk_cause").into_iter();
+    let named: Vec<_> = named.map(|(name, number)| (name, cause(number))).collect();
+    assert_eq!(named, causes);
+}
+
+#[test]
+#[should_panic(expected = "does not name: 3")]
+fn no_cause() {
+    cause(3);
 }
 
 #[test]
