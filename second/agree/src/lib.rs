@@ -3,6 +3,7 @@
 //! octets are held together.
 //! Another seed: `SEED=7 cargo test --release`.
 
+mod losses;
 mod reads;
 mod signals;
 mod whys;

@@ -1,5 +1,6 @@
 //! Lines read by the oracle and by another form.
 
+use crate::losses::Losses;
 use crate::{seed, Kept};
 use given::{image, room, Random};
 use oracle::line::{bits, wrong_bits};
@@ -14,6 +15,7 @@ pub fn reads(form: &str, other: Read) {
     let seed = seed(&format!("{LINES} lines read, {form}"));
     let (mut numbers, mut starts, mut basics) = ([0; 16], [0; 8], [0; 8]);
     let (mut several, mut hit, mut far) = (0, [0; 8], 0);
+    let mut losses = Losses::default();
     for item in 0..LINES {
         let r = &mut Random::new(seed, item);
         let image = image(r);
@@ -24,7 +26,10 @@ pub fn reads(form: &str, other: Read) {
         let (reading, slot0) = both(r, &image, other);
         numbers[reading.number as usize] += 1;
         match reading.number {
-            0 => starts[reading.start as usize % 8] += 1,
+            0 => {
+                starts[reading.start as usize % 8] += 1;
+                losses.count(&image, &reading);
+            }
             15 => basics[reading.place as usize % 8] += 1,
             _ => {}
         }
@@ -48,6 +53,7 @@ pub fn reads(form: &str, other: Read) {
     // E bits of 0 have been read of a last multiframe, whose second block is not
     // compared.
     assert!(far >= numbers[0] / 8, "{far} of {numbers:?}");
+    losses.check();
 }
 
 /// Every octet and every number, with outputs of lengths that matter. It gives

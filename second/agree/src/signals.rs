@@ -2,8 +2,6 @@
 
 use crate::{seed, Kept};
 use given::{room, Random};
-use oracle::line::bits;
-use oracle::place::first;
 use oracle::{Signals, Written};
 
 const LINES: u64 = 16_000;
@@ -17,7 +15,7 @@ pub fn signals(form: &str, other: Read) {
     let seed = seed(&format!("{LINES} lines with signalling read, {form}"));
     let (mut numbers, mut places, mut starts) = ([0; 16], [0; 8], [0; 16]);
     let (mut read, mut losses) = ([0; 16], [0; 4]);
-    let (mut ends, mut xys) = ([0; 4], [[0; 2]; 4]);
+    let (mut ends, mut xys, mut causes) = ([0; 4], [[0; 2]; 4], [0; 3]);
     for item in 0..LINES {
         let r = &mut Random::new(seed, item);
         let image = given::signalled(r);
@@ -30,8 +28,9 @@ pub fn signals(form: &str, other: Read) {
         if s.number != 0 {
             continue;
         }
-        let (place, _) = first(&bits(&image)).unwrap();
-        places[place % 8] += 1;
+        let reading = oracle::read(&image, &mut [0; 7_936], &mut [0; 256]);
+        places[reading.place as usize % 8] += 1;
+        causes[reading.cause as usize] += u64::from(reading.used > 0);
         read[s.multiframes as usize] += 1;
         losses[s.losses.min(3) as usize] += 1;
         if s.first != 0 {
@@ -55,6 +54,8 @@ pub fn signals(form: &str, other: Read) {
     assert!(starts.iter().all(|&count| count >= 100), "{starts:?}");
     assert!(read.iter().all(|&count| count >= 30), "{read:?}");
     assert!(losses.iter().all(|&count| count >= 100), "{losses:?}");
+    // Either loss of a line's own alignment has left some of its frames.
+    assert!(causes.iter().all(|&count| count >= 200), "{causes:?}");
     // Alignment is held and not held at the end, with some read and with none;
     // none are read where it is lost.
     assert!(ends[..2].iter().all(|&count| count >= 300), "{ends:?}");

@@ -1,9 +1,11 @@
 //! The oracle held to the bench cases of the paper, by their numbers, and to
-//! what the paper promises of `wordbits`, of `why`, of numbers 3 and 15 and of
-//! signalling.
+//! what the paper promises of the loss, of `wordbits`, of `why`, of numbers 3 and
+//! 15 and of signalling.
 
 use agree::seed;
-use given::making::{flip, set_basic, set_slot16, shifted, wrong_signals, wrong_words};
+use given::making::{
+    flip, set_basic, set_slot16, shifted, wrong_bits_2, wrong_signals, wrong_words,
+};
 use given::Random;
 use oracle::check::check;
 use oracle::line::{bits, number, octets, wrong_bits, BLOCK, FRAME, SIGNAL, WORD};
@@ -189,7 +191,10 @@ fn case_12_report() {
     assert_eq!(report(&[0; 2_048]), "refused 3\n");
     let mut image = line(4);
     wrong_words(&mut image, &[28, 30, 32]);
-    assert!(report(&image).contains("\nlost 32\nwords 2\nwordbits 2\ncompared 3\n"));
+    assert!(report(&image).contains("\nlost 32\ncause word\nwords 2\nwordbits 2\n"));
+    let mut image = line(4);
+    wrong_bits_2(&mut image, &[29, 31, 33]);
+    assert!(report(&image).contains("\nlost 33\ncause bit2\nwords 0\nwordbits 0\n"));
 }
 
 #[test]
@@ -249,6 +254,25 @@ fn case_16_basic_alignment_only() {
     };
     assert_eq!(read_all(&set(0)), basic_only(0));
     assert_eq!(read_all(&set(1)), refusal(3));
+}
+
+#[test]
+fn case_19_either_loss() {
+    // The line from this frame on.
+    let lost = |n: usize, words: &[usize], bits_2: &[usize], frame: usize| {
+        let mut image = line(n);
+        wrong_words(&mut image, words);
+        wrong_bits_2(&mut image, bits_2);
+        let r = read_all(&image[32 * frame..]);
+        assert_eq!((r.number, r.place), (0, 0));
+        (r.start, r.lost, r.used, r.cause)
+    };
+    assert_eq!(lost(4, &[], &[3, 5, 7], 0), (0, 7, 0, 2));
+    let words_first = lost(4, &[20, 22, 24], &[21, 23, 25], 0);
+    assert_eq!(words_first, (0, 24, 1, 1));
+    let bits_2_first = lost(4, &[20, 22, 24], &[19, 21, 23], 0);
+    assert_eq!(bits_2_first, (0, 23, 1, 2));
+    assert_eq!(lost(5, &[], &[17, 19, 21], 14), (512, 5, 0, 2));
 }
 
 /// What is heard of a line of which slot 16 is this, over and over, frame 0
@@ -398,6 +422,90 @@ fn signalling_is_heard_as_it_was_written() {
         assert!(heard == abcd[30..], "line {item}");
         let last = 8 * s.x0 + 4 * s.y + 2 * s.x1 + s.x2;
         assert_eq!(last, u64::from(xy[n - 1]), "line {item}");
+    }
+}
+
+/// Frame f of a line that is read from this start on, as the rules of loss see it:
+/// whether it is the third in a row by its word, and whether by its bit 2.
+fn third_in_row(bits: &[u8], start: usize, f: usize) -> [bool; 2] {
+    let slot0 = |f: usize| &bits[start + f * FRAME..start + f * FRAME + 8];
+    let wrong_word = |f: usize| slot0(f)[1..] != WORD;
+    let wrong_bit_2 = |f: usize| slot0(f)[1] == 0;
+    let three = |wrong: &dyn Fn(usize) -> bool| [4, 2, 0].iter().all(|back| wrong(f - back));
+    [
+        f >= 4 && f % 2 == 0 && three(&wrong_word),
+        f >= 4 && f % 2 == 1 && three(&wrong_bit_2),
+    ]
+}
+
+/// The frame of loss by either rule, its cause, and how many multiframes are used.
+fn loss_of(bits: &[u8], start: usize, whole: usize) -> (u64, u64, u64) {
+    for f in 0..16 * whole {
+        let cause = match third_in_row(bits, start, f) {
+            [true, true] => panic!("frame {f} meets both"),
+            [true, false] => 1,
+            [false, true] => 2,
+            [false, false] => continue,
+        };
+        return (f as u64, cause, f as u64 / 16);
+    }
+    (0, 0, whole as u64)
+}
+
+/// What is promised of the loss, of images as they may come.
+#[test]
+fn losses_in_the_words_of_the_paper() {
+    let seed = seed(&format!("{IMAGES} images, where alignment is lost"));
+    let (mut causes, mut words_alone) = ([0; 3], [0; 2]);
+    for item in 0..IMAGES {
+        let image = given::image(&mut Random::new(seed, item));
+        let r = read_all(&image);
+        if r.number != 0 {
+            assert_eq!((r.lost, r.cause), (0, 0), "image {item}");
+            continue;
+        }
+        let (start, whole) = (r.start as usize, r.whole as usize);
+        let mut bits = bits(&image);
+        let loss = loss_of(&bits, start, whole);
+        assert_eq!((r.lost, r.cause, r.used), loss, "image {item}");
+        causes[r.cause as usize] += 1;
+
+        // With every bit 2 of the whole multiframes right, words alone.
+        let words = (0..16 * whole).find(|&f| third_in_row(&bits, start, f)[0]);
+        for f in (1..16 * whole).step_by(2) {
+            bits[start + f * FRAME + 1] = 1;
+        }
+        let righted = read_all(&octets(&bits));
+        if (righted.start, righted.whole) == (r.start, r.whole) {
+            assert_eq!(righted.lost, words.unwrap_or(0) as u64, "image {item}");
+            assert_eq!(righted.cause, u64::from(words.is_some()), "image {item}");
+            words_alone[usize::from(r.cause == 2)] += 1;
+        }
+    }
+    assert!(causes.iter().all(|&n| n >= IMAGES / 40), "{causes:?}");
+    assert!(
+        words_alone.iter().all(|&n| n >= IMAGES / 40),
+        "{words_alone:?}"
+    );
+}
+
+/// A line that was written has no loss.
+#[test]
+fn no_loss_in_what_was_written() {
+    let seed = seed(&format!("{IMAGES} lines, written and read"));
+    for item in 0..IMAGES {
+        let r = &mut Random::new(seed, item);
+        let n = r.between(4, 16);
+        let (payload, overhead) = (r.octets(496 * n), given::overhead(r, 8 * n));
+        let mut line = vec![0; 512 * n];
+        write(&payload, &overhead, r.below(16) as u64, &mut line);
+        let read = read_all(&line);
+        assert_eq!((read.number, read.used), (0, n as u64), "line {item}");
+        assert_eq!(
+            (read.lost, read.cause, read.words),
+            (0, 0, 0),
+            "line {item}"
+        );
     }
 }
 

@@ -167,12 +167,54 @@ pub fn hit_words(
     }
 }
 
+/// Words in a row, or bits 2, of which those are hit that are 1 here.
+const ROWS: [&[u8]; 8] = [
+    &[1],
+    &[1, 1],
+    &[1, 1, 0, 1, 1],
+    &[1, 1, 0, 1, 1, 1],
+    &[1, 0, 1, 1, 0, 1],
+    &[1, 1, 1],
+    &[1, 1, 1],
+    &[1, 1, 1, 1],
+];
+
+/// Hits words in a row, bits 2 in a row, or most often both near each other:
+/// over the end of a multiframe, from its begin on, up to the last frame, or
+/// anywhere.
+fn hit_rows(r: &mut Random, line: &mut [u8]) {
+    // Pairs of an even frame and the odd one behind it.
+    let pairs = line.len() / FRAME / 2;
+    let multiframe = 8 * r.below(pairs / 8 + 1);
+    let near = match r.below(4) {
+        0 => multiframe.saturating_sub(r.between(1, 4)),
+        1 => multiframe,
+        2 => pairs.saturating_sub(r.pick(&[3, 3, 4, 5])),
+        _ => r.below(pairs + 1),
+    };
+    let mut row = || -> Vec<usize> {
+        let (first, row) = (near + r.pick(&[0, 0, 1, 2, 3]), r.pick(&ROWS));
+        let hit = (first..pairs).zip(row).filter(|(_, hit)| **hit == 1);
+        hit.map(|(pair, _)| pair).collect()
+    };
+    let (words, bits_2) = (row(), row());
+    let which = r.below(5);
+    if which > 0 {
+        let words = words.into_iter().map(|pair| 2 * pair);
+        hit_words(r, line, words, 1);
+    }
+    if which < 4 {
+        let bits_2 = bits_2.into_iter().map(|pair| (2 * pair + 1) * FRAME + 1);
+        hit(r, line, bits_2, 1);
+    }
+}
+
 pub fn damage(r: &mut Random, line: &mut Vec<u8>) {
     let length = line.len();
     let (frames, multiframes) = (length / FRAME, length / MULTIFRAME);
     let times = r.pick(&[1, 2, 3, 5, 10, 30]);
     let at = r.below(length);
-    match r.below(17) {
+    match r.below(20) {
         // Anywhere.
         0 => {
             for _ in 0..r.between(1, 300) {
@@ -215,27 +257,29 @@ pub fn damage(r: &mut Random, line: &mut Vec<u8>) {
             let seconds = (1..frames).step_by(2).map(|f| f * FRAME + 1);
             hit(r, line, seconds, times);
         }
+        // Words and bits 2, some of each in a row.
+        11 | 12 | 13 => hit_rows(r, line),
         // Signals, E bits, check bits, all bits 1 of odd frames.
-        11 => {
+        14 => {
             let f = r.pick(&[1, 3, 5, 7, 9, 11]);
             let signals = (0..multiframes).map(|m| (16 * m + f) * FRAME);
             hit(r, line, signals, times);
         }
-        12 => {
+        15 => {
             let f = r.pick(&[13, 15]);
             let es = (0..multiframes).map(|m| (16 * m + f) * FRAME);
             hit(r, line, es, times);
         }
-        13 => {
+        16 => {
             let checks = (0..frames).step_by(2).map(|f| f * FRAME);
             hit(r, line, checks, times);
         }
-        14 => {
+        17 => {
             let firsts = (1..frames).step_by(2).map(|f| f * FRAME);
             hit(r, line, firsts, times);
         }
         // A mark of every signal.
-        15 => {
+        18 => {
             for m in 0..multiframes {
                 line[(16 * m + r.pick(&[1, 3, 5, 7, 9, 11])) * FRAME] ^= 1;
             }

@@ -29,6 +29,13 @@ pub fn wrong_words(line: &mut [u8], frames: &[usize]) {
     }
 }
 
+/// Makes bits 2 of these frames wrong, where they are right.
+pub fn wrong_bits_2(line: &mut [u8], frames: &[usize]) {
+    for f in frames {
+        flip(line, f * FRAME + 1);
+    }
+}
+
 /// Makes the signals of these multiframes wrong, by their first bit.
 pub fn wrong_signals(line: &mut [u8], multiframes: &[usize]) {
     for m in multiframes {

@@ -9,6 +9,7 @@
 
 pub mod chain;
 pub mod fold;
+mod loss;
 mod mapping;
 mod place;
 mod reading;
@@ -29,4 +30,10 @@ pub type Check = fn(&[u8], usize) -> u8;
 #[inline]
 fn window(octets: &[u8], i: usize) -> u64 {
     u64::from_be_bytes(octets[i..i + 8].try_into().unwrap())
+}
+
+/// The 64 bits from octet i on, in the order of this machine's octets.
+#[inline(always)]
+fn as_is(octets: &[u8], i: usize) -> u64 {
+    u64::from_ne_bytes(octets[i..i + 8].try_into().unwrap())
 }

@@ -1,7 +1,7 @@
 //! Which place stands, by windows of 64 bits. In a set of places the highest
 //! bit is the place at the window's first bit, the next bit the next place.
 
-use crate::window;
+use crate::{as_is, window};
 
 /// The octets that the places of a window look at.
 pub const AHEAD: usize = 2_048;
@@ -146,12 +146,6 @@ fn bits_2(octets: &[u8], i: usize) -> u64 {
 fn zeros(octets: &[u8], i: usize) -> u64 {
     let none = !u64::from_be(as_is(octets, i) | as_is(octets, i + 64));
     none & none << 1 & none << 4
-}
-
-/// The 64 bits from octet i on, in the order of this machine's octets.
-#[inline(always)]
-fn as_is(octets: &[u8], i: usize) -> u64 {
-    u64::from_ne_bytes(octets[i..i + 8].try_into().unwrap())
 }
 
 /// The places with two signals a multiple of 2 ms apart, of 128. All marks of a

@@ -1,8 +1,8 @@
 //! Reading from the start. Slot 0 is gathered first, as loss, words, checks
 //! and E bits are all in it; then payload and blocks go by once.
 
+use crate::loss::{cause, Runs};
 use crate::place::{self, Found};
-use crate::window;
 use crate::Check;
 use oracle::Reading;
 
@@ -39,14 +39,12 @@ pub fn read(image: &[u8], payload: &mut [u8], slot0: &mut [u8], check: Check) ->
     let (line, o) = (&image[start / 8..], start % 8);
     let mut slots = [0; 256];
     gather(line, o, &mut slots[..16 * whole]);
-    let mut wrong = [0; 128];
-    judge(&slots, &mut wrong[..8 * whole]);
-    let lost = loss(&wrong[..8 * whole]);
-    let used = lost.map_or(whole, |f| f / 16);
+    let judged = judge(&slots[..16 * whole]);
+    let used = judged.lost.map_or(whole, |f| f / 16);
     if payload.len() < 496 * used || slot0.len() < 16 * used {
         return refused(4);
     }
-    let (slots, wrong) = (&slots[..16 * used], &wrong[..8 * used]);
+    let slots = &slots[..16 * used];
     slot0[..16 * used].copy_from_slice(slots);
     take(line, o, &mut payload[..496 * used]);
     Reading {
@@ -55,12 +53,13 @@ pub fn read(image: &[u8], payload: &mut [u8], slot0: &mut [u8], check: Check) ->
         start: start as u64,
         whole: whole as u64,
         used: used as u64,
-        lost: lost.unwrap_or(0) as u64,
-        words: wrong.iter().filter(|bits| **bits != 0).count() as u64,
+        lost: judged.lost.unwrap_or(0) as u64,
+        words: judged.words,
         compared: (2 * used as u64).saturating_sub(1),
         errored: compare(line, o, slots, check),
         farend: far_end_errors(slots),
-        wordbits: ones(wrong),
+        wordbits: judged.wordbits,
+        cause: cause(judged.lost),
     }
 }
 
@@ -72,29 +71,61 @@ fn gather(line: &[u8], o: usize, slots: &mut [u8]) {
     }
 }
 
-/// The wrong bits of every word, each a 1 in the word's own octet.
-fn judge(slots: &[u8], wrong: &mut [u8]) {
-    for (slots, wrong) in slots.chunks_exact(2).zip(wrong) {
-        *wrong = (slots[0] ^ 0x1B) & 0x7F;
-    }
+/// The loss, and what is wrong in the words of the multiframes before it.
+#[derive(Default)]
+struct Judged {
+    lost: Option<usize>,
+    words: u64,
+    wordbits: u64,
 }
 
-/// How many wrong bits there are, a multiframe's eight words at a time.
-fn ones(wrong: &[u8]) -> u64 {
-    let ones = |words: &[u8]| u64::from(window(words, 0).count_ones());
-    wrong.chunks_exact(8).map(ones).sum()
-}
-
-/// The first even frame that ends three wrong words in a row.
-fn loss(wrong: &[u8]) -> Option<usize> {
-    let mut row = 0;
-    for (i, bits) in wrong.iter().enumerate() {
-        row = if *bits != 0 { row + 1 } else { 0 };
-        if row == 3 {
-            return Some(2 * i);
+/// Judges a multiframe at a time; one in which all is right takes one test.
+fn judge(slots: &[u8]) -> Judged {
+    let mut judged = Judged::default();
+    let mut runs = Runs::default();
+    for (m, slots) in slots.chunks_exact(16).enumerate() {
+        let wrong = wrong_in(slots);
+        if wrong == 0 {
+            runs.end();
+            continue;
         }
+        let frames = frames_of(wrong);
+        if let Some(f) = runs.go_on(frames) {
+            judged.lost = Some(16 * m + f);
+            break;
+        }
+        judged.words += u64::from((frames & EVEN).count_ones());
+        judged.wordbits += u64::from((wrong & WORDS).count_ones());
     }
-    None
+    judged
+}
+
+/// An octet of 1 for each frame, and for each even one.
+const EACH: u128 = u128::MAX / 0xFF;
+const EACH_EVEN: u128 = u128::MAX / 0xFFFF << 8;
+
+/// The bits of the words, and the even ones of sixteen frames.
+const WORDS: u128 = 0x7F * EACH_EVEN;
+const EVEN: u32 = 0xAAAA;
+
+/// What is wrong in slot 0 of a multiframe's frames, each bit a 1 where it lies:
+/// those of the word, or bit 2.
+#[inline]
+fn wrong_in(slots: &[u8]) -> u128 {
+    const RIGHT: u128 = 0x1B * EACH_EVEN | 0x40 * (EACH ^ EACH_EVEN);
+    const JUDGED: u128 = WORDS | 0x40 * EACH;
+    let slots = u128::from_be_bytes(slots.try_into().unwrap());
+    (slots ^ RIGHT) & JUDGED
+}
+
+/// A bit for each frame in which something is wrong, frame 0 the highest of
+/// sixteen.
+fn frames_of(wrong: u128) -> u32 {
+    // No octet is above 0x7F, so what is added carries into the highest bit of
+    // each that is not 0. A multiplication brings those of eight together.
+    let some = (wrong + 0x7F * EACH) >> 7 & EACH;
+    let together = |eight: u64| (eight.wrapping_mul(0x0102_0408_1020_4080) >> 56) as u32;
+    together((some >> 64) as u64) << 8 | together(some as u64)
 }
 
 /// Slots 1 to 31 of every frame.

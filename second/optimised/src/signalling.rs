@@ -1,9 +1,10 @@
 //! Signalling: slot 16 is taken from the image where it is, a signalling
 //! multiframe at a step while alignment is held, and written over the payload's.
 
+use crate::loss::Runs;
 use crate::place::{self, Found};
 use crate::writing::{carry_all, fill, multiframes_given, refused as unwritten};
-use crate::Check;
+use crate::{as_is, Check};
 use oracle::{Signals, Written};
 
 fn refused(number: u64) -> Signals {
@@ -47,40 +48,66 @@ pub fn signals(image: &[u8], abcd: &mut [u8]) -> Signals {
     walk.answer(&slots)
 }
 
-/// How many multiframes come before the one in which three words in a row are
-/// wrong, or all of them.
+/// How many multiframes come before the one in which alignment is lost, or all
+/// of them.
 fn used(line: &[u8], o: usize) -> usize {
-    let (word, right) = (mask(0x7F00, o), mask(0x1B00, o));
-    let mut row = 0;
+    let slot0 = Slot0::at(o);
+    let mut runs = Runs::default();
     for (m, multiframe) in line.chunks_exact(512).enumerate() {
-        let (mut any, mut all) = (0, !0);
-        for w in 0..8 {
-            any |= two(multiframe, 64 * w);
-            all &= two(multiframe, 64 * w);
-        }
-        row = match (any ^ right | all ^ right) & word {
-            0 => 0,
-            _ => wrong_in_row(multiframe, word, right, row),
-        };
-        if row == 3 {
+        if slot0.all_right(multiframe) {
+            runs.end();
+        } else if runs.go_on(slot0.wrong(multiframe)).is_some() {
             return m;
         }
     }
     line.len() / 512
 }
 
-/// How many words in a row are wrong at the end of a multiframe, by how many
-/// were before it; 3 where as many are at a word of it.
-#[inline(never)]
-fn wrong_in_row(multiframe: &[u8], word: u16, right: u16, mut row: usize) -> usize {
-    for w in 0..8 {
-        let wrong = (two(multiframe, 64 * w) ^ right) & word != 0;
-        row = if wrong { row + 1 } else { 0 };
-        if row == 3 {
-            break;
+/// Which bits of a window at a frame are its word, those of the right one, and
+/// which is bit 2, in the order of this machine's octets.
+struct Slot0 {
+    word: u64,
+    right: u64,
+    bit_2: u64,
+}
+
+impl Slot0 {
+    /// Of frames that begin at bit o.
+    #[inline(always)]
+    fn at(o: usize) -> Slot0 {
+        let mask = |octet: u64| (octet << 56 >> o).to_be();
+        Slot0 {
+            word: mask(0x7F),
+            right: mask(0x1B),
+            bit_2: mask(0x40),
         }
     }
-    row
+
+    /// Whether every word and every bit 2 of a multiframe is right.
+    #[inline(always)]
+    fn all_right(&self, multiframe: &[u8]) -> bool {
+        let (mut any, mut all, mut all_odd) = (0, !0, !0);
+        for i in 0..8 {
+            any |= as_is(multiframe, 64 * i);
+            all &= as_is(multiframe, 64 * i);
+            all_odd &= as_is(multiframe, 64 * i + 32);
+        }
+        let words = (any ^ self.right | all ^ self.right) & self.word;
+        words | !all_odd & self.bit_2 == 0
+    }
+
+    /// A bit for each frame with a wrong word or bit 2, frame 0 the highest of
+    /// sixteen.
+    #[inline(never)]
+    fn wrong(&self, multiframe: &[u8]) -> u32 {
+        let mut frames = 0;
+        for i in 0..8 {
+            let word = (as_is(multiframe, 64 * i) ^ self.right) & self.word != 0;
+            let bit_2 = as_is(multiframe, 64 * i + 32) & self.bit_2 == 0;
+            frames = frames << 2 | u32::from(word) << 1 | u32::from(bit_2);
+        }
+        frames
+    }
 }
 
 /// The two octets at octet i, in the order of this machine's octets.

@@ -19,7 +19,12 @@ pub struct Reading {
     pub errored: u64,
     pub farend: u64,
     pub wordbits: u64,
+    pub cause: u64,
 }
+
+/// The causes of a loss.
+const BY_WORDS: u64 = 1;
+const BY_BITS_2: u64 = 2;
 
 fn refused(number: u64) -> Reading {
     Reading {
@@ -46,26 +51,28 @@ pub fn read(image: &[u8], payload: &mut [u8], slot0: &mut [u8]) -> Reading {
     let whole = (image.len() - start) / MULTIFRAME;
     let line = &image[start..start + whole * MULTIFRAME];
     let words = words(line);
-    let lost = loss(&words);
-    let used = lost.map_or(whole, |f| f / 16);
+    let loss = loss(&words, &bits_2(line));
+    let used = loss.map_or(whole, |(f, _)| f / 16);
     if payload.len() < 496 * used || slot0.len() < 16 * used {
         return refused(4);
     }
     let (line, words) = (&line[..used * MULTIFRAME], &words[..8 * used]);
     take(line, payload, slot0);
     let agreed = agreed(line);
+    let (lost, cause) = loss.unwrap_or((0, 0));
     Reading {
         number: 0,
         place: p as u64,
         start: start as u64,
         whole: whole as u64,
         used: used as u64,
-        lost: lost.unwrap_or(0) as u64,
+        lost: lost as u64,
         words: words.iter().filter(|&&bits| bits != 0).count() as u64,
         compared: agreed.len() as u64,
         errored: agreed.iter().filter(|&&agreed| !agreed).count() as u64,
         farend: far_end_errors(line),
         wordbits: words.iter().sum(),
+        cause,
     }
 }
 
@@ -89,12 +96,28 @@ fn words(line: &[u8]) -> Vec<u64> {
         .collect()
 }
 
-/// The first even frame that ends three wrong words in a row.
-fn loss(words: &[u64]) -> Option<usize> {
-    let wrong = |w: usize| words[w] != 0;
-    (2..words.len())
-        .find(|&w| wrong(w - 2) && wrong(w - 1) && wrong(w))
-        .map(|w| 2 * w)
+/// Bit 2 of each odd frame; bit i is that of frame 2i + 1.
+fn bits_2(line: &[u8]) -> Vec<u8> {
+    let frames = line.len() / FRAME;
+    (1..frames)
+        .step_by(2)
+        .map(|f| line[f * FRAME + 1])
+        .collect()
+}
+
+/// The frame of loss with its cause: the earlier of the one by words, which is
+/// even, and the one by bits 2, which is odd.
+fn loss(words: &[u64], bits_2: &[u8]) -> Option<(usize, u64)> {
+    let wrong_words: Vec<bool> = words.iter().map(|&bits| bits != 0).collect();
+    let wrong_bits_2: Vec<bool> = bits_2.iter().map(|&bit| bit == 0).collect();
+    let by_words = third_in_row(&wrong_words).map(|w| (2 * w, BY_WORDS));
+    let by_bits_2 = third_in_row(&wrong_bits_2).map(|i| (2 * i + 1, BY_BITS_2));
+    by_words.into_iter().chain(by_bits_2).min()
+}
+
+/// The first that is the third wrong one in a row.
+fn third_in_row(wrong: &[bool]) -> Option<usize> {
+    (2..wrong.len()).find(|&i| wrong[i - 2] && wrong[i - 1] && wrong[i])
 }
 
 /// Slot 0 of every frame to one output, slots 1 to 31 to the other.
@@ -132,17 +155,17 @@ pub fn report(image: &[u8]) -> String {
     if r.number != 0 {
         return format!("refused {}\n", r.number);
     }
-    // Three wrong words are needed first, so no loss is at frame 0.
-    let lost = match r.lost {
-        0 => "no".to_string(),
-        f => f.to_string(),
+    let lost = match r.cause {
+        BY_WORDS => format!("lost {}\ncause word\n", r.lost),
+        BY_BITS_2 => format!("lost {}\ncause bit2\n", r.lost),
+        _ => "lost no\n".to_string(),
     };
     [
         format!("place {}\n", r.place),
         format!("start {}\n", r.start),
         format!("whole {}\n", r.whole),
         format!("used {}\n", r.used),
-        format!("lost {lost}\n"),
+        lost,
         format!("words {}\n", r.words),
         format!("wordbits {}\n", r.wordbits),
         format!("compared {}\n", r.compared),

@@ -4,7 +4,7 @@
 //! beforehand, and every octet must be what the binding says.
 
 use jikhvanto::sys::{self, ANSWER};
-use jikhvanto::{Refusal, Why as Said};
+use jikhvanto::{Cause, Refusal, Why as Said};
 use oracle::{Reading, Signals, Why, Written};
 
 /// What a call leaves in the places of its answer.
@@ -49,6 +49,7 @@ pub fn read(image: &[u8], payload: &mut [u8], slot0: &mut [u8]) -> Reading {
             errored: r.errored as u64,
             farend: r.farend as u64,
             wordbits: r.wordbits as u64,
+            cause: cause(r.cause),
         },
         Err(refusal) => Reading {
             number: refusal.number(),
@@ -58,11 +59,20 @@ pub fn read(image: &[u8], payload: &mut [u8], slot0: &mut [u8]) -> Reading {
     };
     let values = [
         r.number, r.place, r.start, r.whole, r.used, r.lost, r.words, r.compared, r.errored,
-        r.farend, r.wordbits,
+        r.farend, r.wordbits, r.cause,
     ];
     assert_eq!(answer, places(values));
     assert!(c_payload == payload && c_slot0 == slot0, "outputs of {r:?}");
     r
+}
+
+/// The number of a cause.
+fn cause(cause: Option<Cause>) -> u64 {
+    match cause {
+        None => 0,
+        Some(Cause::Word) => 1,
+        Some(Cause::Bit2) => 2,
+    }
 }
 
 /// The one value that a refusal may have.
