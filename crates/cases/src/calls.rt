@@ -15,34 +15,34 @@ ghost use mathlib.Core.Path.{_≡_};
 ghost use lib.ListN.{length};
 
 // The steps that call, by their lines in `given::STEPS`.
-const READ: usize = 15;
+const READ: usize = 16;
 
-const WRITE: usize = 16;
+const WRITE: usize = 17;
 
-const ROW: usize = 17;
+const ROW: usize = 18;
 
-const START: usize = 18;
+const START: usize = 19;
 
-const HOST: usize = 19;
+const HOST: usize = 20;
 
-const KEY: usize = 20;
+const KEY: usize = 21;
 
-const BOUNDARY: usize = 21;
+const BOUNDARY: usize = 22;
 
-const MAP: usize = 22;
+const MAP: usize = 23;
 
-const WHY: usize = 23;
+const WHY: usize = 24;
 
-const SIGNALS: usize = 24;
+const SIGNALS: usize = 25;
 
-const WRITE_SIGNALLED: usize = 25;
+const WRITE_SIGNALLED: usize = 26;
 
 // what every octet of an output holds before a call
 const BEFORE: u8 = 170;
 
 // the names of what a read answers
-const NAMES: [u8; 87] =
-    *b" place \n start \n whole \n used \n lost \n words \n compared \n errored \n farend \n wordbits \n";
+const NAMES: [u8; 95] =
+    *b" place \n start \n whole \n used \n lost \n words \n compared \n errored \n farend \n wordbits \n cause \n";
 
 // what a read answers, and the digests of its outputs
 fn show_read(label: &[u8], r: read::Reading, payload: &[u8], slot0: &[u8]) {
@@ -57,10 +57,11 @@ fn show_read(label: &[u8], r: read::Reading, payload: &[u8], slot0: &[u8]) {
         r.errored,
         r.farend,
         r.wordbits,
+        r.cause as usize,
     ];
     print(label);
     print_number(b": ", r.number);
-    for i in 0..10 {
+    for i in 0..11 {
         write_line(STDOUT_FILENO, &NAMES, i as u64);
         print_number(b"", counts[i] as u64);
     }

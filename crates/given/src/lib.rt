@@ -3,7 +3,7 @@ use program::text::limited;
 ghost use Prim.Native.Nat.{_<_, _≤_};
 
 // The steps of a case, by the lines of this table. Up to ROOM they make something, here; those behind it call.
-pub const STEPS: [u8; 161] = *b"\
+pub const STEPS: [u8; 166] = *b"\
     payload\n\
     overhead\n\
     alike\n\
@@ -15,6 +15,7 @@ pub const STEPS: [u8; 161] = *b"\
     front\n\
     hit\n\
     word\n\
+    bit2\n\
     signal\n\
     slot16\n\
     part\n\
@@ -53,15 +54,17 @@ const HIT: usize = 9;
 
 const WORD: usize = 10;
 
-const SIGNAL: usize = 11;
+const BIT2: usize = 11;
 
-const SLOT16: usize = 12;
+const SIGNAL: usize = 12;
 
-const PART: usize = 13;
+const SLOT16: usize = 13;
 
-pub const ROOM: usize = 14;
+const PART: usize = 14;
 
-pub const UNKNOWN: usize = 26;
+pub const ROOM: usize = 15;
+
+pub const UNKNOWN: usize = 27;
 
 // A payload, an overhead, XY and ABCD, of one multiframe more than a call takes; an image; which of its octets are read,
 // and into how much room.
@@ -222,7 +225,8 @@ fn front(image: [u8; 8193], b: usize) -> [u8; 8193]
     octets
 }
 
-// the bit that a step hits: the given one, the last of a frame's word, or the first of a multiframe's signal
+// the bit that a step hits: the given one, the last of a frame's word, a frame's bit 2, or the first of a multiframe's
+// signal
 fn place(k: usize, x: u64) -> usize
     ensures { λ r. ⌜ r < 65544 ⌝ }
 {
@@ -231,6 +235,9 @@ fn place(k: usize, x: u64) -> usize
     }
     if k == WORD {
         return 256 * limited(x, 255) + 7;
+    }
+    if k == BIT2 {
+        return 256 * limited(x, 255) + 1;
     }
     256 * (16 * limited(x, 15) + 1)
 }
@@ -308,7 +315,7 @@ impl Bench {
                 let e = limited(to, 8193) + (b + 7) / 8;
                 self.imaged(front(image, b), from, e as u64)
             }
-            HIT | WORD | SIGNAL => self.imaged(hit(image, k, row, n), from, to),
+            HIT | WORD | BIT2 | SIGNAL => self.imaged(hit(image, k, row, n), from, to),
             SLOT16 => self.imaged(with_slot16(image, row, n), from, to),
             PART => self.imaged(image, row[0], row[1]),
             ROOM => {

@@ -3,7 +3,9 @@
 
 #![forbid(unsafe_code)]
 
-use given::making::{flip, set_basic, set_slot16, shifted, wrong_signals, wrong_words};
+use given::making::{
+    flip, set_basic, set_slot16, shifted, wrong_bits_2, wrong_signals, wrong_words,
+};
 use oracle::line::octets;
 use oracle::{read, signals, why, write, write_signalled, Exchange};
 use std::fmt::Write;
@@ -17,6 +19,8 @@ pub fn all() -> String {
     lengths(&mut text);
     places(&mut text);
     losses(&mut text);
+    losses_by_bits_2(&mut text);
+    losses_by_either(&mut text);
     words(&mut text);
     blocks(&mut text);
     far_ends(&mut text);
@@ -29,6 +33,7 @@ pub fn all() -> String {
     agains(&mut text);
     xs_and_ys(&mut text);
     used(&mut text);
+    used_by_bits_2(&mut text);
     abcds(&mut text);
     writes(&mut text);
     rows(&mut text);
@@ -92,7 +97,7 @@ fn read_into(text: &mut String, label: &str, image: &[u8], room: usize, room0: u
     write!(text, " used {} lost {}", r.used, r.lost).unwrap();
     write!(text, " words {} compared {}", r.words, r.compared).unwrap();
     write!(text, " errored {} farend {}", r.errored, r.farend).unwrap();
-    write!(text, " wordbits {}", r.wordbits).unwrap();
+    write!(text, " wordbits {} cause {}", r.wordbits, r.cause).unwrap();
     let (payload, slot0) = (digest(&payload), digest(&slot0));
     writeln!(text, " payload {payload} slot0 {slot0}").unwrap();
 }
@@ -177,6 +182,72 @@ fn losses(text: &mut String) {
     let mut image = line(5);
     wrong_words(&mut image, &[12, 14, 16]);
     read_case(text, "loss before", &image[64..]);
+}
+
+/// A line with these words wrong, and bits 2 of these frames.
+fn unaligned(n: usize, words: &[usize], bits_2: &[usize]) -> Vec<u8> {
+    let mut image = line(n);
+    wrong_words(&mut image, words);
+    wrong_bits_2(&mut image, bits_2);
+    image
+}
+
+fn losses_by_bits_2(text: &mut String) {
+    let mut lost = |label: &str, frames: &[usize]| {
+        read_case(text, label, &unaligned(4, &[], frames));
+    };
+    lost("19 bits 2", &[3, 5, 7]);
+    lost("bits 2 of one", &[21]);
+    lost("bits 2 of two", &[21, 23]);
+    lost("bits 2 of four", &[21, 23, 25, 27]);
+    lost("bits 2 of eight", &[17, 19, 21, 23, 25, 27, 29, 31]);
+    lost("bits 2 twice", &[21, 23, 25, 41, 43, 45]);
+    lost("bits 2 apart", &[21, 23, 27, 29, 33, 35]);
+    lost("bits 2 every other", &[19, 23, 27, 31, 35, 39, 43]);
+    for end in [31, 33, 35, 37] {
+        let label = format!("bits 2 up to {end}");
+        lost(&label, &[end - 4, end - 2, end]);
+    }
+    lost("bits 2 last", &[59, 61, 63]);
+    lost("bits 2 last two", &[61, 63]);
+    lost("bits 2 of words", &[20, 22, 24]);
+
+    let mut of_five = |label: &str, frames: &[usize], from: usize, to: usize| {
+        let image = unaligned(5, &[], frames);
+        read_case(text, label, &image[from..to]);
+    };
+    of_five("19 at 5", &[17, 19, 21], 448, 2_560);
+    of_five("bits 2 before", &[13, 15, 17], 64, 2_560);
+    of_five("bits 2 from before on", &[15, 17, 19, 21], 64, 2_560);
+    of_five("bits 2 past the end", &[61, 63, 65], 0, 2_304);
+
+    for front in 0..8 {
+        let image = unaligned(4, &[], &[29, 31, 33]);
+        let label = format!("bits 2 shift {front}");
+        read_case(text, &label, &shifted(&image, front));
+    }
+    let places = [5_376, 5_378, 5_888, 5_890, 6_400, 6_402];
+    read_case(text, "bits 1 and 3", &hit_line(&places));
+}
+
+fn losses_by_either(text: &mut String) {
+    let mut lost = |label: &str, words: &[usize], bits_2: &[usize]| {
+        read_case(text, label, &unaligned(4, words, bits_2));
+    };
+    lost("19 words first", &[20, 22, 24], &[21, 23, 25]);
+    lost("19 bits 2 first", &[20, 22, 24], &[19, 21, 23]);
+    lost("both of two", &[20, 22], &[21, 23]);
+    lost("both and a right word", &[20, 22], &[21, 23, 25]);
+    lost("both and a right bit 2", &[20, 22, 24], &[19, 21]);
+    lost("both and right ones", &[20, 22, 26, 28], &[21, 23, 27, 29]);
+    lost("both words through", &[28, 30, 32], &[29, 33]);
+    lost("both bits 2 through", &[28, 32], &[29, 31, 33]);
+    lost("both words earlier", &[20, 22, 24], &[53, 55, 57]);
+    lost("both bits 2 earlier", &[52, 54, 56], &[21, 23, 25]);
+    lost("both over the end", &[28, 30, 32], &[27, 29, 33]);
+    lost("both words last", &[58, 60, 62], &[59, 61, 63]);
+    lost("both bits 2 last", &[60, 62], &[59, 61, 63]);
+    lost("both counted", &[18, 36, 38], &[19, 37, 39, 41]);
 }
 
 fn words(text: &mut String) {
@@ -311,6 +382,11 @@ fn outputs(text: &mut String) {
     let mut image = line(4);
     wrong_words(&mut image, &[4, 6, 8]);
     read_into(text, "out none needed", &image, 0, 0);
+    let image = unaligned(4, &[], &[3, 5, 7]);
+    read_into(text, "out none needed of bits 2", &image, 0, 0);
+    let image = unaligned(4, &[], &[37, 39, 41]);
+    read_into(text, "out exact of bits 2", &image, 992, 32);
+    read_into(text, "out short of bits 2", &image, 991, 32);
 
     read_into(text, "order 1", &[], 0, 0);
     read_into(text, "order 2", &[0; 8_193], 0, 0);
@@ -601,6 +677,37 @@ fn used(text: &mut String) {
     };
     four("used four wrong past", &[48, 64]);
     four("used four wrong in", &[32, 48]);
+}
+
+fn used_by_bits_2(text: &mut String) {
+    // These words are wrong, and bits 2 of these frames.
+    let unaligned = |n: usize, words: &[usize], bits_2: &[usize]| {
+        let mut image = unworded(n, words);
+        wrong_bits_2(&mut image, bits_2);
+        image
+    };
+    let mut used = |label: &str, words: &[usize], bits_2: &[usize]| {
+        signals_case(text, label, &unaligned(8, words, bits_2));
+    };
+    used("used none by bits 2", &[], &[3, 5, 7]);
+    used("used one by bits 2", &[], &[21, 23, 25]);
+    used("used four by bits 2", &[], &[67, 69, 71]);
+    used("used over the end", &[], &[61, 63, 65]);
+    used("used last by bits 2", &[], &[123, 125, 127]);
+    used("used all by bits 2", &[], &[67, 69, 73, 75]);
+    used("used words first", &[52, 54, 56], &[67, 69, 71]);
+    used("used bits 2 first", &[68, 70, 72], &[51, 53, 55]);
+    used("used a right word", &[68, 70], &[69, 71, 73]);
+    used("used a right bit 2", &[68, 70, 72], &[67, 69]);
+    used("used right ones", &[68, 70, 74, 76], &[69, 71, 75, 77]);
+    for front in 0..8 {
+        let image = unaligned(4, &[], &[45, 47, 49]);
+        let label = format!("used front {front}");
+        signals_case(text, &label, &shifted(&image, front));
+    }
+    let two = unaligned(4, &[], &[37, 39, 41]);
+    signals_into(text, "used abcd exact", &two, 30);
+    signals_into(text, "used abcd short", &two, 29);
 }
 
 fn abcds(text: &mut String) {
