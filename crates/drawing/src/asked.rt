@@ -1,5 +1,6 @@
 // A place that is asked about: its mark on the bar of the whole line, with what is said of it, and the frame that holds
 // it.
+use crate::ruler;
 use align::Why;
 use pen::Pen;
 use read::Reading;
@@ -23,14 +24,10 @@ pub fn said(pen: Pen, why: Why) -> Pen {
     }
 }
 
-// a mark at x along the bar, its words on the side that has the room
+// a mark at x along the bar
 fn mark(pen: Pen, x: usize, place: usize, why: Why) -> Pen {
     let pen = pen.fill(b"<g class='asked'><path d='M% -4V70'/>", &[x]);
-    let pen = if x < 516 {
-        pen.fill(b"<text x='%' y='70' dx='4'>", &[x])
-    } else {
-        pen.fill(b"<text x='%' y='70' dx='-4' text-anchor='end'>", &[x])
-    };
+    let pen = ruler::beside(pen, x, 70);
     said(pen.fill(b"asked: place %, ", &[place]), why).text(b"</text></g>\n")
 }
 
@@ -44,7 +41,7 @@ pub fn marked(pen: Pen, octets: usize, asked: Asked) -> Pen
     if 8 * octets < place {
         return mark(pen, 1032, place, why);
     }
-    mark(pen, crate::ruler::along(octets, place), place, why)
+    mark(pen, ruler::along(octets, place), place, why)
 }
 
 // the frame that holds the place, outlined where it is drawn

@@ -67,13 +67,25 @@ fn overhead(pen: Pen, bits: &[usize]) -> Pen
     pen.fill(b"% % %%%%%</text></g>", &bits[1..])
 }
 
+// a wrong bit 2, in a cell with a cross that covers it and leaves A as it shows
+fn bit2(pen: Pen, bit: usize) -> Pen {
+    if bit == 1 {
+        return pen;
+    }
+    pen.text(
+        b"<g class='cell bits wrong'><rect x='24' width='16' height='24'/><text x='32' y='16'>&#215;0</text></g>",
+    )
+}
+
 fn odd(pen: Pen, bits: &[usize], n: usize) -> Pen
     requires { ⌜ length (now bits) ≡ 8 ⌝ }
 {
-    if n < 12 {
-        return overhead(signal(pen, n, bits[0]), bits);
-    }
-    overhead(far(pen, bits[0]), bits)
+    let pen = if n < 12 {
+        signal(pen, n, bits[0])
+    } else {
+        far(pen, bits[0])
+    };
+    bit2(overhead(pen, bits), bits[1])
 }
 
 // frame f of the line, in its place among the sixteen of its multiframe; its number shows under a pointer

@@ -5,7 +5,7 @@ pub fn style(pen: Pen) -> Pen {
     pen.text(
         b"<style>
 .name{font-weight:bold}.note{font-size:11px;fill:#55626d}.value{font-size:20px}.rest{fill:#d9dde0}
-path{stroke:#1f2a33;stroke-width:1.4}
+path{stroke:#1f2a33;stroke-width:1.4}.label{stroke:#fff;stroke-width:3;paint-order:stroke}
 .cell rect,.dashed rect{fill:#fff;stroke:#6b7782;stroke-width:.8}.cell text{text-anchor:middle}
 .bits text{font-family:'DejaVu Sans Mono',Menlo,Consolas,monospace}
 .used1 rect,.check rect{fill:#d6e6f4}.word rect{fill:#edf3f8}.signal rect{fill:#e8e1f2}.e1 rect{fill:#fbf3d0}
@@ -51,6 +51,9 @@ A block's own check is carried in C1 to C4 of the next row.</text>
 <text x='15' y='16'>&#215;<tspan class='many'>2</tspan></text><text x='52' y='16'>0001001</text></g></g>
 <g transform='translate(578 60)'><text x='92' y='16'>A is 1: alarm</text>
 <g class='cell bits a1'><rect width='84' height='24'/><text x='42' y='16'>1 1 11111</text></g></g>
+<g transform='translate(578 90)'><text x='92' y='16'>bit 2 is 0: wrong</text>
+<g class='cell bits wrong'><rect width='24' height='24'/><text x='12' y='16'>&#215;0</text></g>
+<g class='cell bits'><rect x='24' width='60' height='24'/><text x='54' y='16'>0 11111</text></g></g>
 <g transform='translate(800 0)'><text x='92' y='16'>the next row's check agrees</text>
 <g class='cell clean'><rect width='84' height='24'/><text x='42' y='16'>clean</text></g></g>
 <g transform='translate(800 30)'><text x='92' y='16'>the next row's check differs</text>

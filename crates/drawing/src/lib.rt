@@ -34,7 +34,7 @@ fn page_of(pen: Pen, octets: usize, r: Reading, s: Signalling, asked: Asked) -> 
     requires { ⌜ Shown octets r ⌝ }
 {
     let below = 372 + 68 * drawn(r);
-    let pen = legend::style(pen.page(1080, below + 108)).fill(
+    let pen = legend::style(pen.page(1080, below + 138)).fill(
         b"<text class='title' x='24' y='40'>A line of % octets</text>\n",
         &[octets],
     );
@@ -57,6 +57,6 @@ pub fn line(
     let pen = page_of(Pen::new(fd), image.len(), r, s, asked);
     let pen = multiframes::multiframes(pen, image, slot0, r);
     let pen = asked::outlined(pen, r, asked);
-    let pen = multiframes::loss(pen, r.used, r.lost).text(b"</svg>\n");
+    let pen = multiframes::loss(pen, r.used, r.lost, r.cause).text(b"</svg>\n");
     pen.written
 }

@@ -81,19 +81,29 @@ pub fn multiframes(pen: Pen, image: &[u8], slot0: &[u8; 256], r: Reading) -> Pen
     pen
 }
 
+// what is wrong at the frame of the loss
+fn print_wrong(pen: Pen, cause: u64) -> Pen {
+    if cause == 1 {
+        return pen.text(b"The word is wrong");
+    }
+    pen.text(b"Bit 2 of an odd frame is 0")
+}
+
 // the multiframe behind them, where alignment is lost in it
-pub fn loss(pen: Pen, g: usize, lost: usize) -> Pen
+pub fn loss(pen: Pen, g: usize, lost: usize, cause: u64) -> Pen
     requires { ⌜ g ≤ 16 ⌝ }
 {
     if lost == 0 {
         return pen;
     }
-    opened(pen, g).fill(
+    let pen = opened(pen, g).fill(
         b"<g class='dashed'><rect width='796' height='24'/><rect y='28' width='796' height='24'/></g>
 <g class='cell wrong' transform='translate(% %)'>
 <rect width='96' height='24'/><text x='48' y='16'>&#215; lost at %</text></g>
-<text y='72'>The word is wrong for the third time in a row: this multiframe and what follows are not used.</text></g>
-",
+<text y='72'>",
         &[100 * (lost % 8), 28 * (lost / 8 % 2), lost],
+    );
+    print_wrong(pen, cause).text(
+        b" for the third time in a row: this multiframe and what follows are not used.</text></g>\n",
     )
 }

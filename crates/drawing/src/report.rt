@@ -18,7 +18,7 @@ fn tiles(pen: Pen) -> Pen {
 <tspan x='965.5'>farend</tspan></text>
 <text class='note' y='64'>
 <tspan x='34'>alignment</tspan><tspan x='137.5'>first multiframe</tspan><tspan x='241'>multiframes</tspan>
-<tspan x='344.5'>multiframes</tspan><tspan x='448'>frame</tspan><tspan x='551.5'>wrong</tspan>
+<tspan x='344.5'>multiframes</tspan><tspan x='551.5'>wrong</tspan>
 <tspan x='655'>wrong bits</tspan><tspan x='758.5'>blocks</tspan><tspan x='862'>blocks</tspan>
 <tspan x='965.5'>reported errors</tspan></text>
 <text class='value' y='46'>
@@ -34,15 +34,26 @@ fn lost(pen: Pen, frame: usize) -> Pen {
     pen.fill(b"<tspan x='448'>%</tspan>\n", &[frame])
 }
 
+// by which rule it is lost, if it is
+pub fn by_rule(pen: Pen, cause: u64) -> Pen {
+    match cause {
+        0 => pen,
+        1 => pen.text(b", by words"),
+        _ => pen.text(b", by bits 2"),
+    }
+}
+
 pub fn report(pen: Pen, r: Reading) -> Pen {
     let pen = tiles(pen).fill(
         b"<tspan x='34'>%</tspan><tspan x='137.5'>%</tspan><tspan x='241'>%</tspan><tspan x='344.5'>%</tspan>",
         &[r.place, r.start, r.whole, r.used],
     );
-    lost(pen, r.lost).fill(
+    let pen = lost(pen, r.lost).fill(
         b"<tspan x='551.5'>%</tspan><tspan x='655'>%</tspan><tspan x='758.5'>%</tspan>
 <tspan x='862'>%</tspan><tspan x='965.5'>%</tspan>
-</text></g>\n",
+</text>\n",
         &[r.words, r.wordbits, r.compared, r.errored, r.farend],
-    )
+    );
+    let pen = pen.text(b"<text class='note' x='448' y='64'>frame");
+    by_rule(pen, r.cause).text(b"</text></g>\n")
 }

@@ -1,6 +1,7 @@
 // The whole line as one bar: where alignment is found, the multiframes, and where alignment is lost.
 use crate::asked;
 use crate::asked::Asked;
+use crate::report::by_rule;
 use pen::Pen;
 use read::Reading;
 ghost use Prim.Native.Nat.{_<_, _≤_};
@@ -37,7 +38,18 @@ fn multiframes(pen: Pen, octets: usize, r: Reading) -> Pen
     pen
 }
 
-// where alignment is lost, if it is
+// opens words beside a mark at x along the bar, y below its top, on the side that has the room
+pub fn beside(pen: Pen, x: usize, y: usize) -> Pen {
+    if x < 516 {
+        return pen.fill(b"<text class='label' x='%' y='%' dx='4'>", &[x, y]);
+    }
+    pen.fill(
+        b"<text class='label' x='%' y='%' dx='-4' text-anchor='end'>",
+        &[x, y],
+    )
+}
+
+// where alignment is lost, if it is, and by which rule
 fn loss(pen: Pen, octets: usize, r: Reading) -> Pen
     requires { ⌜ Shown octets r ⌝ }
 {
@@ -45,10 +57,8 @@ fn loss(pen: Pen, octets: usize, r: Reading) -> Pen
         return pen;
     }
     let x = along(octets, r.start + 4096 * r.used + 256 * (r.lost % 16));
-    pen.fill(
-        b"<path d='M% 0V54'/><text x='%' y='54' dx='-4' text-anchor='end'>lost: frame %</text>\n",
-        &[x, x, r.lost],
-    )
+    let pen = beside(pen.fill(b"<path d='M% 0V54'/>", &[x]), x, 54);
+    by_rule(pen.fill(b"lost: frame %", &[r.lost]), r.cause).text(b"</text>\n")
 }
 
 // where alignment is found, and the first bit of a multiframe
@@ -57,22 +67,23 @@ fn found(pen: Pen, octets: usize, r: Reading) -> Pen
 {
     let x = along(octets, r.place);
     let pen = pen.fill(
-        b"<path d='M% 24V-14'/><text x='%' y='-6' dx='4'>found: place %</text>\n",
+        b"<path d='M% 24V-14'/><text class='label' x='%' y='-6' dx='4'>found: place %</text>\n",
         &[x, x, r.place],
     );
     let x = along(octets, r.start);
     pen.fill(
-        b"<path d='M% 0V38'/><text x='%' y='38' dx='4'>first multiframe: start %</text>\n",
+        b"<path d='M% 0V38'/><text class='label' x='%' y='38' dx='4'>first multiframe: start %</text>\n",
         &[x, x, r.start],
     )
 }
 
+// the marks that reach down furthest come first, so that the words of the others lie over them
 pub fn ruler(pen: Pen, octets: usize, r: Reading, a: Asked) -> Pen
     requires { ⌜ Shown octets r ⌝ }
 {
     let pen = pen.text(
         b"<g transform='translate(24 168)'><rect class='rest' width='1032' height='24'/>\n",
     );
-    let pen = loss(found(multiframes(pen, octets, r), octets, r), octets, r);
-    asked::marked(pen, octets, a).text(b"</g>\n")
+    let pen = asked::marked(multiframes(pen, octets, r), octets, a);
+    found(loss(pen, octets, r), octets, r).text(b"</g>\n")
 }

@@ -2,11 +2,18 @@
 use program::print;
 use program::print_line;
 
-fn print_lost(frame: usize) -> bool {
+fn print_cause(cause: u64) -> bool {
+    if cause == 1 {
+        return print(b"cause word\n");
+    }
+    print(b"cause bit2\n")
+}
+
+fn print_lost(frame: usize, cause: u64) -> bool {
     if frame == 0 {
         return print(b"lost no\n");
     }
-    print_line(b"lost ", frame)
+    print_line(b"lost ", frame) & print_cause(cause)
 }
 
 fn print_report(r: read::Reading) -> bool {
@@ -14,7 +21,7 @@ fn print_report(r: read::Reading) -> bool {
         & print_line(b"start ", r.start)
         & print_line(b"whole ", r.whole)
         & print_line(b"used ", r.used)
-        & print_lost(r.lost)
+        & print_lost(r.lost, r.cause)
         & print_line(b"words ", r.words)
         & print_line(b"wordbits ", r.wordbits)
         & print_line(b"compared ", r.compared)
