@@ -132,9 +132,6 @@ whenSo-none false i e = refl
 pub least-more : (n : ℕ) (t : ℕ → Bool) → least n t ≡ none → t n ≡ false → least (n + 1) t ≡ none
 least-more n t e k = first-more n (λ i. whenSo (t i) i) e (rw k)
 
-pub least-less : (m n : ℕ) (t : ℕ → Bool) → m ≤ n → least n t ≡ none → least m t ≡ none
-least-less m n t h e = first-less m n (λ i. whenSo (t i) i) h e
-
 pub some-least : (n i : ℕ) (t : ℕ → Bool) → i < n → least i t ≡ none → t i ≡ true → least n t ≡ some i
 some-least n i t h e k = some-first n i (λ i. whenSo (t i) i) i h e (rw k)
 
