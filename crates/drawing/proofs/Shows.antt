@@ -4,7 +4,7 @@ use mathlib.Core.Path.{_≡_, sym, ap, _∙_}
 use mathlib.Core.List.{List}
 use native.Mathlib.Omega.{arith}
 use lib.ListN.{length}
-use Rattle.read.specs.Reading.{compared}
+use Rattle.measure.specs.Reading.{compared}
 use Rattle.read.specs.Entry.{Read, accept, placeIn, startIn, wholeIn, usedIn}
 use Rattle.read.proofs.EntryLaws.{ready, read-number, read-accepted}
 use Rattle.read.specs.declared.Reading.{Reading}

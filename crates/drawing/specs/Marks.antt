@@ -3,7 +3,7 @@ use Prim.Native.Nat.{ℕ}
 use mathlib.Core.List.{List}
 use lib.Dec.{ltb}
 use Rattle.base.specs.Choice.{if_then_else_}
-use Rattle.read.specs.Reading.{agreesIn}
+use Rattle.measure.specs.Reading.{agreesIn}
 use Rattle.drawing.specs.declared.multiframes.Mark.{Mark}
 use Rattle.drawing.specs.declared.multiframes.Mark.the-variants.{Clean, Errored, NotCompared}
 

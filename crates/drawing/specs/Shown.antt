@@ -1,7 +1,7 @@
 -- What drawing leans on: a reading that was not refused, of a line of so many octets.
 use Prim.Native.Nat.{ℕ, _+_, _*_, _≤_}
 use mathlib.Core.Path.{_≡_}
-use Rattle.read.specs.Reading.{compared}
+use Rattle.measure.specs.Reading.{compared}
 use Rattle.read.specs.declared.Reading.{Reading}
 
 pub record Shown (octets : ℕ) (r : Reading) : Type 0 where

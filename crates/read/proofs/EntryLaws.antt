@@ -19,8 +19,8 @@ use Rattle.align.specs.declared.Found.the-variants.{At, BasicAt, Nothing}
 use Rattle.align.proofs.Laws.{first-stands, first-within}
 use Rattle.read.specs.Entry.{GoodLength, refuse, refusedPlace, reading, accept, unplaced, refusals, refusal, placeIn, startIn}
 use Rattle.read.specs.Entry.{wholeIn, usedIn, Read}
-use Rattle.read.proofs.Laws.{whole-fits}
-use Rattle.read.proofs.LossLaws.{used-le}
+use Rattle.measure.proofs.Laws.{whole-fits}
+use Rattle.measure.proofs.LossLaws.{used-le}
 use Rattle.read.specs.declared.Reading.{Reading}
 
 -- The numbers

@@ -4,18 +4,20 @@ use mathlib.Core.Path.{_≡_, refl, sym, ap, ap₂, _∙_}
 use mathlib.Core.Bool.{true, false, _||_}
 use mathlib.Core.List.{List, _++_}
 use mathlib.Core.Option.{some}
+use native.Mathlib.Nat.{add-zero}
 use native.Mathlib.Omega.{arith}
 use lib.Dec.{ltb}
 use lib.ListN.{length, drop}
 use Rattle.line.specs.Bit.{Room}
 use Rattle.align.specs.Place.{firstStanding}
 use Rattle.align.proofs.Laws.{first-within}
-use Rattle.read.specs.Reading.{whole, loss, lostAt, causeOf, usedOf, payloadOf, slot0Of, wordErrors, wordBits}
-use Rattle.read.specs.Reading.{compared, errored, farEnd}
-use Rattle.read.specs.Entry.{unplaced, located, found, nowhere, startIn, wholeIn, usedIn, GoodLength}
+use Rattle.measure.specs.Reading.{whole, loss, lossFrom, lostAt, causeOf, usedOf, payloadOf, slot0Of, wordErrors, wordBits}
+use Rattle.measure.specs.Reading.{compared, errored, farEnd}
+use Rattle.read.specs.Entry.{unplaced, located, found, nowhere, startIn, wholeIn, lossIn, usedIn, GoodLength}
 use Rattle.read.specs.Entry.{reading, accept, refuse, refusedPlace, refusal, Read}
-use Rattle.read.proofs.Laws.{whole-fits}
-use Rattle.read.proofs.LossLaws.{used-le}
+use Rattle.measure.proofs.Laws.{whole-fits}
+use Rattle.measure.proofs.LossLaws.{used-le}
+use Rattle.measure.proofs.FromLaws.{from-first, used-upto}
 use Rattle.read.specs.declared.Located.{Located}
 use Rattle.read.specs.declared.Reading.{Reading}
 use Rattle.read.proofs.EntryLaws.{place-is, start-is, placed, placed-0, unplaced-first, placed-then, refused-as}
@@ -33,7 +35,7 @@ module _ (s : List ℕ) (good : GoodLength s) (p k : ℕ) (e : firstStanding s �
   pub start-room : (p + 16384 ≤ 8 * length s) × (k ≤ 18) × (length s ≤ 8192)
   start-room = let h = first-within s p k e in (h .0, omega arith, good .short)
 
-  module _ (q m g : ℕ) (hq : q ≡ p + 512 * k) (hm : m ≡ (8 * length s - q) / 4096) (hg : g ≡ usedOf (loss s q m) m) where
+  module _ (q m g : ℕ) (hq : q ≡ p + 512 * k) (hm : m ≡ (8 * length s - q) / 4096) (hg : g ≡ usedOf (lossFrom s q 0 m) m) where
     pub measured : Measured s q m g
     unfolding whole
     measured =
@@ -44,17 +46,20 @@ module _ (s : List ℕ) (good : GoodLength s) (p k : ℕ) (e : firstStanding s �
         record {
           at = at;
           of = of;
-          upto = hg ∙ ap₂ (λ x y. usedOf (loss s x y) y) at of;
-          room = record { countable = omega arith; there = omega (arith, used-le s q m) };
+          upto = hg ∙ ap (λ o. usedOf o m) (from-first s q m) ∙ ap₂ (λ x y. usedOf (loss s x y) y) at of;
+          room = record { countable = omega arith; there = omega (arith, used-upto s q 0 m) };
         }
 
     -- what is located from there
     pub located-so : (l : Located) → l .number ≡ 0 → l .place ≡ p → l .start ≡ q → l .whole ≡ m → l .used ≡ g
-        → l .lost ≡ lostAt (loss s q m) → l .words ≡ wordErrors s q g → l .wordbits ≡ wordBits s q g
-        → l .cause ≡ causeOf (loss s q m) → l ≡ located s
+        → l .lost ≡ lostAt (lossFrom s q 0 m) → l .words ≡ wordErrors s (q + 4096 * 0) (g - 0)
+        → l .wordbits ≡ wordBits s (q + 4096 * 0) (g - 0) → l .cause ≡ causeOf (lossFrom s q 0 m) → l ≡ located s
     unfolding located
     located-so l h₀ h₁ h₂ h₃ h₄ h₅ h₆ h₇ h₈ =
         let d = measured in
+        let from : lossFrom s q 0 m ≡ lossIn s = from-first s q m ∙ ap₂ (loss s) (d .at) (d .of) in
+        let at : q + 4096 * 0 ≡ startIn s = add-zero q ∙ d .at in
+        let all : g - 0 ≡ g = omega arith in
         let its : l ≡ found s = λ i.
         record {
           number = h₀ i;
@@ -62,10 +67,10 @@ module _ (s : List ℕ) (good : GoodLength s) (p k : ℕ) (e : firstStanding s �
           start = (h₂ ∙ d .at) i;
           whole = (h₃ ∙ d .of) i;
           used = (h₄ ∙ d .upto) i;
-          lost = (h₅ ∙ ap₂ (λ x y. lostAt (loss s x y)) (d .at) (d .of)) i;
-          words = (h₆ ∙ ap₂ (wordErrors s) (d .at) (d .upto)) i;
-          wordbits = (h₇ ∙ ap₂ (wordBits s) (d .at) (d .upto)) i;
-          cause = (h₈ ∙ ap₂ (λ x y. causeOf (loss s x y)) (d .at) (d .of)) i;
+          lost = (h₅ ∙ ap lostAt from) i;
+          words = (h₆ ∙ ap₂ (wordErrors s) at (all ∙ d .upto)) i;
+          wordbits = (h₇ ∙ ap₂ (wordBits s) at (all ∙ d .upto)) i;
+          cause = (h₈ ∙ ap causeOf from) i;
         } in
         its ∙ sym (accepted-so (firstOf (unplaced s)) (found s) _ (placed-0 s good (record { place = p; k = k }) e))
 
@@ -83,7 +88,6 @@ pub record Places (s : List ℕ) (l : Located) : Type 0 where
   pub upto : l .used ≡ usedIn s
   pub few : l .used ≤ 16
   pub room : Room s (l .start) (4096 * l .used)
-  pub first : Room s (l .start) 2048
 
 module _ (s : List ℕ) (l : Located) (h : l ≡ located s) where
   pub located-number : l .number ≡ firstOf (unplaced s)
@@ -118,7 +122,6 @@ module _ (s : List ℕ) (l : Located) (h : l ≡ located s) where
         upto = upto;
         few = omega arith;
         room = record { countable = omega arith; there = omega arith };
-        first = record { countable = omega arith; there = omega arith };
       }
 
   -- the same number is the reading's

@@ -9,8 +9,8 @@ use lib.ListN.{length, drop}
 use Rattle.align.specs.Place.{foundIn, numberOf, placeOf, startOf}
 use Rattle.base.specs.Answer.{accepted, Refusal, _when_, firstOf}
 use Rattle.base.specs.Choice.{if_then_else_}
-use Rattle.read.specs.Reading.{whole, loss, lostAt, causeOf, usedOf, payloadOf, slot0Of, wordErrors, wordBits}
-use Rattle.read.specs.Reading.{compared, errored, farEnd}
+use Rattle.measure.specs.Reading.{whole, loss, lostAt, causeOf, usedOf, payloadOf, slot0Of, wordErrors, wordBits}
+use Rattle.measure.specs.Reading.{compared, errored, farEnd}
 use Rattle.read.specs.declared.Located.{Located}
 use Rattle.read.specs.declared.Reading.{Reading}
 

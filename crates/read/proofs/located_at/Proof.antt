@@ -18,7 +18,7 @@ returns c =
     let d = c .before .before in
     let e = c .track .ensures in
     located-so (d .args .image .now) (d .pre .0) (d .args .place) (d .args .k) (d .pre .1) _ _ (c .track .result .used) refl refl (e .2)
-    _ refl refl refl refl refl (e .0) (e .3) (e .4) (e .1)
+    _ refl refl refl refl refl (e .0) (e .5) (e .6) (e .1)
 
 pub located-at-spec : {M : Type 1} → statement M
 located-at-spec =
@@ -28,5 +28,5 @@ located-at-spec =
     (λ c. omega (arith, roomy (c .before)))
     (search needs)
     (λ c. omega (arith, roomy (c .before)))
-    (λ c κs. let r = roomy (c .before) in record { countable = omega arith; there = omega arith })
+    (λ c κs. let r = roomy (c .before) in (record { countable = omega arith; there = omega arith }, omega arith))
     returns)
