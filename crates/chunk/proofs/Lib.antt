@@ -1,0 +1,5 @@
+pub mod BufferLaws
+pub mod GainLaws
+pub mod FollowLaws
+pub mod LookLaws
+pub mod TakeLaws
