@@ -1,17 +1,18 @@
 /*
- * Jikhvanto: E1 multiframes and their signalling read and written, and the slot map with its key.
+ * Jikhvanto: E1 multiframes and their signalling read and written, a line in chunks, and the slot map with its key.
  *
- * Every call but jk_start returns its number: JK_ACCEPTED, which is 0, or that of its refusal. Where several refusals
- * apply, it is the first in the call's list below. An answer has JK_ANSWER places: the number, the values, then zeros.
- * A refused call gives zeros in every other place of its answer and changes nothing else: no octet of an output, and no
- * octet of a state. There is one exception: jk_read's JK_BASIC_ONLY has a value, JK_PLACE, and zeros behind it. In an
- * accepted call the octets of an output past those needed keep what they held.
+ * Every call but jk_start and jk_stream_start returns its number: JK_ACCEPTED, which is 0, or that of its refusal.
+ * Where several refusals apply, it is the first in the call's list below. An answer has JK_ANSWER places: the number,
+ * the values, then zeros. A refused call gives zeros in every other place of its answer and changes nothing else: no
+ * octet of an output, and no octet of a state or a stream. There is one exception: JK_BASIC_ONLY of jk_read and of
+ * jk_end has a value, JK_PLACE, and zeros behind it. In an accepted call the octets of an output past those needed keep
+ * what they held.
  *
  * All this is proved of the library's source. It rests on what no proof of it can see, and you must keep:
  *   - every pointer is valid for its length, and none is NULL, even where its length is 0;
  *   - a buffer that a call writes overlaps no other buffer of that call;
- *   - a call finds its stack: jk_read, jk_signals, jk_write and jk_write_signalled take under 5,000 octets of it, the
- *     others under 500.
+ *   - a call finds its stack: jk_feed takes under 11,000 octets of it; jk_read, jk_signals, jk_write and
+ *     jk_write_signalled under 5,000; the others under 500.
  * The library holds nothing between calls, so calls on buffers of their own may run side by side.
  *
  * From one version to the next no number and no place of an answer changes its meaning, but for what is put right and
@@ -33,17 +34,18 @@
 #include <stdint.h>
 
 #define JK_VERSION_MAJOR 0
-#define JK_VERSION_MINOR 7
+#define JK_VERSION_MINOR 8
 #define JK_VERSION_PATCH 0
-#define JK_VERSION "0.7.0"
+#define JK_VERSION "0.8.0"
 
-#define JK_ANSWER 16 /* places of an answer */
-#define JK_STATE 99  /* octets of a state */
+#define JK_ANSWER 16          /* places of an answer */
+#define JK_STATE 99           /* octets of a state */
+#define JK_STREAM_OCTETS 2144 /* octets of a stream */
 
 /* The numbers. */
 enum jk_number {
     JK_ACCEPTED = 0,
-    JK_SHORT_IMAGE = 1,     /* the image is under 2,048 octets */
+    JK_SHORT_IMAGE = 1,     /* the image, or the joined line, is under 2,048 octets */
     JK_LONG_IMAGE = 2,      /* the image is over 8,192 octets */
     JK_NO_PLACE = 3,        /* no place with room, 16,384 bits to the end of the image, has basic alignment */
     JK_SHORT_OUTPUT = 4,    /* an output is shorter than the call needs */
@@ -57,15 +59,17 @@ enum jk_number {
     JK_NOTHING_STAGED = 12, /* kind 2 or 4 with nothing staged */
     JK_BAD_POSITION = 13,   /* the key's position isn't 0 or 1 */
     JK_LATE_PLACE = 14,     /* fewer than 16,384 bits from the place to the end of the image */
-    JK_BASIC_ONLY = 15,     /* a place with room has basic alignment, but none stands; jk_read has the first */
-    JK_BAD_SIGNALS = 16     /* XY isn't n octets of 0 to 15, or ABCD isn't 30n octets of 1 to 15 */
+    JK_BASIC_ONLY = 15,     /* a place with room has basic alignment, but none stands; jk_read and jk_end say which */
+    JK_BAD_SIGNALS = 16,    /* XY isn't n octets of 0 to 15, or ABCD isn't 30n octets of 1 to 15 */
+    JK_LONG_LINE = 17,      /* with the chunk the joined line would be over 16,777,216 octets */
+    JK_ENDED = 21           /* the stream has ended, or comes from no calls */
 };
 
 /* The places of an answer; the number is in place 0 of each. */
 enum jk_place {
     JK_NUMBER = 0,
 
-    /* jk_read */
+    /* jk_read, jk_end */
     JK_PLACE = 1,     /* the bit at which alignment stands; with JK_BASIC_ONLY the first place with basic alignment */
     JK_START = 2,     /* the bit at which the first multiframe starts */
     JK_WHOLE = 3,     /* whole multiframes from there to the end of the image */
@@ -77,6 +81,9 @@ enum jk_place {
     JK_FAREND = 9,    /* E bits that are 0 in the multiframes used */
     JK_WORDBITS = 10, /* wrong bits of the alignment words in the multiframes used, 1 to 7 for each wrong word */
     JK_CAUSE = 11,    /* by what alignment is lost, of enum jk_cause */
+
+    /* jk_feed */
+    JK_LEFT = 1,      /* multiframes that left with the chunk */
 
     /* jk_signals */
     JK_MULTIFRAMES = 1, /* signalling multiframes read */
@@ -141,6 +148,43 @@ uint64_t jk_read(const uint8_t *image, size_t image_octets,
                  uint8_t *payload, size_t payload_octets,
                  uint8_t *slot0, size_t slot0_octets,
                  uint64_t answer[JK_ANSWER]);
+
+/*
+ * A line in chunks. A stream takes a line of up to 16,777,216 octets in rows of any length, also of none, and answers
+ * of all that it took, joined, what jk_read answers of an image, wherever the line was cut.
+ *
+ * It is in octets that you lend: twelve numbers of 64 bits, each spelt by eight octets, the highest first, and then the
+ * window, 2,048 octets for the last ones of the line. The numbers are whether the stream has ended, 1 for yes; how many
+ * octets are in the window, and how many came before them; what is found, 1 for basic alignment and 2 for a place that
+ * stands; that place, and its k; then JK_USED, JK_LOST, JK_WORDS, JK_ERRORED, JK_FAREND and JK_WORDBITS so far.
+ * Any octets are a stream: the first number is no unless it is 1, and any other number of what is found is nothing.
+ * One with more than 2,048 octets in the window, or with a number over 134,217,728, comes from no calls, and counts as
+ * ended. A refused call leaves every octet of the stream as it was.
+ *
+ * jk_stream_start makes a stream to which nothing has come. It is all zeros, so zeroed octets are a started stream.
+ */
+void jk_stream_start(uint8_t stream[JK_STREAM_OCTETS]);
+
+/*
+ * Takes a chunk of the line. Each multiframe leaves with the chunk that makes it whole and known to be used, in the
+ * order of the line: slots 1 to 31 to payload, 496 octets each, and slot 0 to slot0, 16 octets each. Room for
+ * n / 512 + 4 multiframes always does for a chunk of n octets; one that lacks room may be offered again.
+ * answer: JK_LEFT
+ * Refused: 21 JK_ENDED, 17 JK_LONG_LINE, 4 JK_SHORT_OUTPUT
+ */
+uint64_t jk_feed(uint8_t stream[JK_STREAM_OCTETS],
+                 const uint8_t *chunk, size_t chunk_octets,
+                 uint8_t *payload, size_t payload_octets,
+                 uint8_t *slot0, size_t slot0_octets,
+                 uint64_t answer[JK_ANSWER]);
+
+/*
+ * Ends the stream, and answers what is read of the joined line. After that every call on it is refused. Where it is
+ * refused itself, but for 21, more chunks may follow and another end.
+ * answer: JK_PLACE to JK_CAUSE; with 15 JK_PLACE alone
+ * Refused: 21 JK_ENDED, 1 JK_SHORT_IMAGE, 3 JK_NO_PLACE, 15 JK_BASIC_ONLY
+ */
+uint64_t jk_end(uint8_t stream[JK_STREAM_OCTETS], uint64_t answer[JK_ANSWER]);
 
 /*
  * Reads the signalling of thirty channels in slot 16 of the multiframes that jk_read uses of the same image.

@@ -173,6 +173,139 @@ static void reading(void)
     EXPECT(reads(far_4) && answer[JK_ERRORED] == 3 && answer[JK_FAREND] == 4);
 }
 
+/* A line of L multiframes behind FRONT octets, what jk_read fills of it, and what leaves a stream. */
+enum { L = 15, FRONT = 5 };
+static uint8_t fed[FRONT + L * 512], filled[L * 496], filled0[L * 16], left[L * 496], left0[L * 16];
+static uint8_t stream[JK_STREAM_OCTETS], was[JK_STREAM_OCTETS];
+
+static void write_fed(void)
+{
+    uint64_t check = 0;
+    int m;
+
+    memset(fed, BEFORE, FRONT);
+    for (m = 0; m < L; m++) {
+        jk_write(payload + m % N * 496, 496, overhead, 8, check, fed + FRONT + m * 512, 512, answer);
+        check = answer[JK_CHECK];
+    }
+}
+
+/* Whether an end now, which is made on a copy, answers what jk_read does of the octets that came. */
+static int ends(size_t octets)
+{
+    uint64_t expected[JK_ANSWER];
+
+    memcpy(was, stream, sizeof was);
+    memset(answer, BEFORE, sizeof answer);
+    jk_read(fed, octets, filled, sizeof filled, filled0, sizeof filled0, expected);
+    return jk_end(was, answer) == expected[JK_NUMBER] && !memcmp(answer, expected, sizeof answer)
+        && (expected[JK_NUMBER] == JK_ACCEPTED ? was[7] == 1 : !memcmp(was, stream, sizeof was));
+}
+
+/* Whether the line goes as jk_read says, fed in chunks of so many octets and less, with an end after each. */
+static int streams(size_t most)
+{
+    size_t octets = 0, used = 0, chunk;
+    int right = 1;
+
+    jk_stream_start(stream);
+    for (chunk = most; octets < sizeof fed; chunk = chunk > most / 3 ? chunk - most / 7 - 1 : most) {
+        if (chunk > sizeof fed - octets)
+            chunk = sizeof fed - octets;
+        right &= jk_feed(stream, fed + octets, chunk, left + used * 496, sizeof left - used * 496,
+                         left0 + used * 16, sizeof left0 - used * 16, answer) == JK_ACCEPTED;
+        octets += chunk;
+        used += (size_t)answer[JK_LEFT];
+        right &= ends(octets);
+    }
+    return right && answer[JK_NUMBER] == JK_ACCEPTED && answer[JK_USED] == used
+        && !memcmp(left, filled, used * 496) && !memcmp(left0, filled0, used * 16);
+}
+
+/* A stream with this number, spelt by three octets, in the place i of the twelve. */
+static void made_up(int i, uint8_t high, uint8_t middle, uint8_t low)
+{
+    jk_stream_start(stream);
+    stream[8 * i + 4] = high;
+    stream[8 * i + 6] = middle;
+    stream[8 * i + 7] = low;
+}
+
+static void unstreamed(void)
+{
+    /* too little came, then no frames, then no signals: it goes on each time */
+    jk_stream_start(stream);
+    hit_signals(fed + FRONT, 0, 5);
+    REFUSED(jk_end(stream, answer), JK_SHORT_IMAGE);
+    ANSWERED(jk_feed(stream, fed, 2048, left, 0, left0, 0, answer), JK_ACCEPTED, 0);
+    REFUSED(jk_end(stream, answer), JK_NO_PLACE);
+    ANSWERED(jk_feed(stream, fed + 2048, 512, left, 0, left0, 0, answer), JK_ACCEPTED, 0);
+    ANSWERED(jk_end(stream, answer), JK_BASIC_ONLY, 8 * FRONT);
+    hit_signals(fed + FRONT, 0, 5);
+
+    /* a chunk that lacks room changes nothing, and is taken when it is offered again */
+    jk_stream_start(stream);
+    ANSWERED(jk_feed(stream, fed, 2000, left, 0, left0, 0, answer), JK_ACCEPTED, 0);
+    memcpy(was, stream, sizeof was);
+    memset(left, BEFORE, sizeof left);
+    memset(left0, BEFORE, sizeof left0);
+    REFUSED(jk_feed(stream, fed + 2000, 600, left, 5 * 496 - 1, left0, 5 * 16, answer), JK_SHORT_OUTPUT);
+    REFUSED(jk_feed(stream, fed + 2000, 600, left, 5 * 496, left0, 5 * 16 - 1, answer), JK_SHORT_OUTPUT);
+    EXPECT(!memcmp(stream, was, sizeof was) && untouched(left, sizeof left) && untouched(left0, sizeof left0));
+    ANSWERED(jk_feed(stream, fed + 2000, 600, left, 5 * 496 + 1, left0, 5 * 16 + 1, answer), JK_ACCEPTED, 5);
+    EXPECT(!memcmp(left, payload, N * 496) && untouched(left + 5 * 496, 1) && untouched(left0 + 5 * 16, 1));
+
+    /* after an end that is accepted, whatever the room */
+    EXPECT(jk_end(stream, answer) == JK_ACCEPTED && answer[JK_USED] == 5 && stream[7] == 1);
+    memcpy(was, stream, sizeof was);
+    REFUSED(jk_feed(stream, fed, 0, left, 0, left0, 0, answer), JK_ENDED);
+    REFUSED(jk_end(stream, answer), JK_ENDED);
+    EXPECT(!memcmp(stream, was, sizeof was));
+
+    /* 16,777,216 octets before an empty window: one more is too many, and none is not */
+    made_up(2, 1, 0, 0);
+    REFUSED(jk_feed(stream, fed, 1, left, 0, left0, 0, answer), JK_LONG_LINE);
+    ANSWERED(jk_feed(stream, fed, 0, left, 0, left0, 0, answer), JK_ACCEPTED, 0);
+
+    /* 2,049 octets in the window, and over 134,217,728 wrong words: these come from no calls */
+    made_up(1, 0, 8, 1);
+    REFUSED(jk_feed(stream, fed, 0, left, 0, left0, 0, answer), JK_ENDED);
+    made_up(8, 8, 0, 1);
+    REFUSED(jk_end(stream, answer), JK_ENDED);
+    made_up(8, 8, 0, 0);
+    REFUSED(jk_end(stream, answer), JK_SHORT_IMAGE);
+
+    /* a first number of 2 is no end */
+    made_up(0, 0, 0, 2);
+    ANSWERED(jk_feed(stream, fed, 0, left, 0, left0, 0, answer), JK_ACCEPTED, 0);
+    EXPECT(stream[7] == 0);
+}
+
+static void streaming(void)
+{
+    size_t i;
+
+    memset(stream, BEFORE, sizeof stream);
+    jk_stream_start(stream);
+    for (i = 0; i < sizeof stream; i++)
+        EXPECT(stream[i] == 0);
+    write_fed();
+    unstreamed();
+    EXPECT(streams(1) && streams(37) && streams(700) && streams(3000) && streams(sizeof fed));
+
+    /* a wrong word, a wrong block and an E bit of 0; a false start; and a loss by each rule */
+    fed[FRONT + 20 * 32] ^= 0x05;
+    fed[FRONT + 1000] ^= 0x01;
+    fed[FRONT + 61 * 32] ^= 0x80;
+    EXPECT(streams(150) && answer[JK_WORDBITS] == 2 && answer[JK_ERRORED] == 3 && answer[JK_FAREND] == 1);
+    hit_signals(fed + FRONT, 0, 4);
+    EXPECT(streams(211) && answer[JK_PLACE] > 8 * FRONT);
+    hit_three(fed + FRONT, 190, 0x10);
+    EXPECT(streams(600) && answer[JK_CAUSE] == JK_CAUSE_WORD);
+    hit_three(fed + FRONT, 143, 0x40);
+    EXPECT(streams(77) && answer[JK_CAUSE] == JK_CAUSE_BIT2);
+}
+
 /* XY and ABCD of N multiframes, with one octet more. */
 static uint8_t xy[N + 1], abcd[N * 30 + 1];
 
@@ -349,6 +482,7 @@ int main(void)
 {
     writing();
     reading();
+    streaming();
     signalling();
     asking();
     map_and_key();

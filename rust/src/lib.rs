@@ -4,12 +4,14 @@
 mod refusal;
 mod signalling;
 mod state;
+mod stream;
 pub mod sys;
 mod why;
 
 pub use refusal::Refusal;
 pub use signalling::{signals, write_signalled, Signalling};
 pub use state::{kind, State};
+pub use stream::Stream;
 pub use why::{why, Why};
 
 use refusal::accepted;
@@ -23,7 +25,8 @@ pub struct Reading {
     pub place: usize,
     /// The bit at which the first multiframe starts.
     pub start: usize,
-    /// Whole multiframes from there to the end of the image.
+    /// Whole multiframes from there to the end of the image, or of the joined
+    /// line.
     pub whole: usize,
     /// Those before the one in which alignment is lost.
     pub used: usize,
@@ -45,6 +48,28 @@ pub struct Reading {
     pub cause: Option<Cause>,
 }
 
+impl Reading {
+    /// What an answer of `jk_read` or `jk_end` says.
+    fn from_answer(answer: &[u64; ANSWER]) -> Result<Reading, Refusal> {
+        accepted(answer)?;
+        let [_, place, start, whole, used, lost, words, compared, errored, farend, wordbits, ..] =
+            answer.map(|value| value as usize);
+        Ok(Reading {
+            place,
+            start,
+            whole,
+            used,
+            lost: Some(lost).filter(|frame| *frame != 0),
+            words,
+            compared,
+            errored,
+            farend,
+            wordbits,
+            cause: Cause::from_answer(answer),
+        })
+    }
+}
+
 /// By what alignment is lost. Words and bits 2 go by runs of their own, and it
 /// is lost at the first frame that is the third in a row of either.
 #[derive(Clone, Copy, Debug, PartialEq, Eq, Hash)]
@@ -57,8 +82,9 @@ pub enum Cause {
 }
 
 impl Cause {
-    /// The cause that an answer of [`jk_read`](sys::jk_read) says; none where
-    /// alignment is not lost or the call is refused.
+    /// The cause that an answer of [`jk_read`](sys::jk_read) or
+    /// [`jk_end`](sys::jk_end) says; none where alignment is not lost or the
+    /// call is refused.
     ///
     /// # Panics
     ///
@@ -100,22 +126,7 @@ pub fn read(image: &[u8], payload: &mut [u8], slot0: &mut [u8]) -> Result<Readin
             &mut answer,
         )
     };
-    accepted(&answer)?;
-    let [_, place, start, whole, used, lost, words, compared, errored, farend, wordbits, ..] =
-        answer.map(|value| value as usize);
-    Ok(Reading {
-        place,
-        start,
-        whole,
-        used,
-        lost: Some(lost).filter(|frame| *frame != 0),
-        words,
-        compared,
-        errored,
-        farend,
-        wordbits,
-        cause: Cause::from_answer(&answer),
-    })
+    Reading::from_answer(&answer)
 }
 
 /// Writes n multiframes, n from 1 to 16, from a payload of 496n octets and 8n

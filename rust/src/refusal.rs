@@ -6,7 +6,7 @@ use std::fmt;
 #[derive(Clone, Copy, Debug, PartialEq, Eq, Hash)]
 #[non_exhaustive]
 pub enum Refusal {
-    /// The image is under 2,048 octets.
+    /// The image, or the joined line, is under 2,048 octets.
     ShortImage,
     /// The image is over 8,192 octets.
     LongImage,
@@ -44,6 +44,10 @@ pub enum Refusal {
     },
     /// XY isn't n octets of 0 to 15, or ABCD isn't 30n octets of 1 to 15.
     BadSignals,
+    /// With the chunk the joined line would be over 16,777,216 octets.
+    LongLine,
+    /// The stream has ended.
+    Ended,
 }
 
 use Refusal::*;
@@ -68,12 +72,15 @@ impl Refusal {
             LatePlace => 14,
             BasicOnly { .. } => 15,
             BadSignals => 16,
+            LongLine => 17,
+            Ended => 21,
         }
     }
 
     /// The refusal that an answer of the library says, by its number in place
     /// 0 and, with number 15, the value behind it; none where the call is
-    /// accepted. That value is [`jk_read`](crate::sys::jk_read)'s:
+    /// accepted. That value is [`jk_read`](crate::sys::jk_read)'s or
+    /// [`jk_end`](crate::sys::jk_end)'s:
     /// [`jk_signals`](crate::sys::jk_signals) has a 0 there, which is no place.
     ///
     /// # Panics
@@ -100,6 +107,8 @@ impl Refusal {
                 place: answer[1] as usize,
             },
             16 => BadSignals,
+            17 => LongLine,
+            21 => Ended,
             number => panic!("a number that the header does not name: {number}"),
         })
     }
@@ -108,7 +117,7 @@ impl Refusal {
 impl fmt::Display for Refusal {
     fn fmt(&self, f: &mut fmt::Formatter) -> fmt::Result {
         f.write_str(match self {
-            ShortImage => "the image is under 2,048 octets",
+            ShortImage => "the image, or the joined line, is under 2,048 octets",
             LongImage => "the image is over 8,192 octets",
             NoPlace => "no place with room has basic alignment",
             ShortOutput => "an output is shorter than the call needs",
@@ -126,6 +135,8 @@ impl fmt::Display for Refusal {
                 return write!(f, "place {place} has basic alignment, but no place stands");
             }
             BadSignals => "XY isn't n octets of 0 to 15, or ABCD isn't 30n octets of 1 to 15",
+            LongLine => "with the chunk the joined line would be over 16,777,216 octets",
+            Ended => "the stream has ended",
         })
     }
 }

@@ -7,6 +7,8 @@
 pub const ANSWER: usize = 16;
 /// Octets of a state.
 pub const STATE: usize = 99;
+/// Octets of a stream.
+pub const STREAM_OCTETS: usize = 2144;
 
 extern "C" {
     pub fn jk_read(
@@ -18,6 +20,18 @@ extern "C" {
         slot0_octets: usize,
         answer: *mut [u64; ANSWER],
     ) -> u64;
+    pub fn jk_stream_start(stream: *mut [u8; STREAM_OCTETS]);
+    pub fn jk_feed(
+        stream: *mut [u8; STREAM_OCTETS],
+        chunk: *const u8,
+        chunk_octets: usize,
+        payload: *mut u8,
+        payload_octets: usize,
+        slot0: *mut u8,
+        slot0_octets: usize,
+        answer: *mut [u64; ANSWER],
+    ) -> u64;
+    pub fn jk_end(stream: *mut [u8; STREAM_OCTETS], answer: *mut [u64; ANSWER]) -> u64;
     pub fn jk_signals(
         image: *const u8,
         image_octets: usize,

@@ -1,6 +1,7 @@
 //! Every call, accepted and with each of its refusals.
 
-use jikhvanto::{kind, read, signals, why, write, write_signalled, Cause, Refusal, State, Why};
+use jikhvanto::{kind, read, signals, sys, why, write, write_signalled};
+use jikhvanto::{Cause, Reading, Refusal, State, Stream, Why};
 
 const BEFORE: u8 = 0xAA;
 
@@ -341,6 +342,114 @@ fn places_are_refused() {
         assert_eq!(why(&[0; 8_193], place), Err(Refusal::LongImage));
     }
     assert_eq!(why(&[], 0), Err(Refusal::ShortImage));
+}
+
+/// A line fed in chunks of so many octets: what left, and what its end says.
+/// Every chunk is first offered with an octet of room too few, and after every
+/// chunk an end on a copy says what is read of what came.
+fn streamed(line: &[u8], octets: usize) -> (Vec<u8>, Vec<u8>, Result<Reading, Refusal>) {
+    let (mut stream, mut came) = (Stream::new(), 0);
+    let (mut payload, mut payload0) = (Vec::new(), Vec::new());
+    for chunk in line.chunks(octets) {
+        let most = chunk.len() / 512 + 4;
+        let (mut slots, mut slot0) = (vec![BEFORE; 496 * most], vec![BEFORE; 16 * most]);
+        let left = stream
+            .clone()
+            .feed(chunk, &mut slots.clone(), &mut slot0.clone())
+            .unwrap();
+        if left > 0 {
+            let was = *stream.octets();
+            let short = stream.feed(chunk, &mut slots[..496 * left - 1], &mut slot0);
+            assert_eq!(short, Err(Refusal::ShortOutput));
+            let short = stream.feed(chunk, &mut slots, &mut slot0[..16 * left - 1]);
+            assert_eq!(short, Err(Refusal::ShortOutput));
+            assert_eq!(*stream.octets(), was);
+            assert!(slots.iter().chain(&slot0).all(|octet| *octet == BEFORE));
+        }
+        assert_eq!(stream.feed(chunk, &mut slots, &mut slot0), Ok(left));
+        let (new, kept) = slots.split_at(496 * left);
+        let (new0, kept0) = slot0.split_at(16 * left);
+        assert!(kept.iter().chain(kept0).all(|octet| *octet == BEFORE));
+        payload.extend(new);
+        payload0.extend(new0);
+        came += chunk.len();
+        let mut copy = stream.clone();
+        let read = read(&line[..came], &mut [0; 7_936], &mut [0; 256]);
+        assert_eq!(copy.end(), read);
+        assert_eq!(read.is_err(), copy.octets() == stream.octets());
+    }
+    (payload, payload0, stream.end())
+}
+
+#[test]
+fn a_line_in_chunks_is_read_as_at_once() {
+    // Three octets in front; a word, a block and an E bit hit; then also a loss.
+    let mut line = [&[0; 3], line(15).as_slice()].concat();
+    line[3 + 32 * 20] ^= 0b101;
+    line[3 + 1_500] ^= 1;
+    line[3 + 32 * 61] ^= 0x80;
+    let mut lost = line.clone();
+    for frame in [175, 177, 179] {
+        lost[3 + 32 * frame] ^= 0x40;
+    }
+    for line in [line, lost] {
+        let (mut slots, mut slot0) = ([0; 7_936], [0; 256]);
+        let r = read(&line, &mut slots, &mut slot0).unwrap();
+        assert_eq!((r.place, r.words, r.wordbits, r.farend), (24, 1, 2, 1));
+        for octets in [1, 97, 512, 1_300, 8_000] {
+            let (payload, payload0, end) = streamed(&line, octets);
+            assert_eq!(end, Ok(r));
+            assert_eq!(payload, slots[..496 * r.used]);
+            assert_eq!(payload0, slot0[..16 * r.used]);
+        }
+    }
+}
+
+#[test]
+fn a_line_may_be_long() {
+    let (payload, overhead) = (payload(16), [31, 31, 31, 31, 31, 31, 95, 95].repeat(16));
+    let (mut stream, mut written, mut check) = (Stream::new(), [0; 16 * 512], 0);
+    let (mut slots, mut slot0) = ([0; 16 * 496], [0; 16 * 16]);
+    for _ in 0..2_048 {
+        check = write(&payload, &overhead, check, &mut written).unwrap();
+        assert_eq!(stream.feed(&written, &mut slots, &mut slot0), Ok(16));
+        assert!(slots[..] == payload);
+    }
+    let was = *stream.octets();
+    assert_eq!(stream.feed(&[0], &mut [], &mut []), Err(Refusal::LongLine));
+    assert_eq!(*stream.octets(), was);
+    assert_eq!(stream.feed(&[], &mut [], &mut []), Ok(0));
+    let r = stream.end().unwrap();
+    assert_eq!((r.whole, r.used, r.lost), (32_768, 32_768, None));
+    assert_eq!((r.compared, r.errored, r.words), (65_535, 0, 0));
+}
+
+#[test]
+fn ends_are_refused() {
+    let mut stream = Stream::new();
+    let mut basic = line(4);
+    for m in 0..4 {
+        basic[(16 * m + 1) * 32] ^= 0x80;
+    }
+    assert_eq!(*stream.octets(), [0; sys::STREAM_OCTETS]);
+    assert_eq!(stream.end(), Err(Refusal::ShortImage));
+    assert_eq!(stream.feed(&[0; 2_048], &mut [], &mut []), Ok(0));
+    assert_eq!(stream.end(), Err(Refusal::NoPlace));
+    assert_eq!(stream.feed(&basic, &mut [], &mut []), Ok(0));
+    assert_eq!(stream.end(), Err(Refusal::BasicOnly { place: 16_384 }));
+    // More follows, and another end.
+    let (mut slots, mut slot0) = ([0; 4 * 496], [0; 4 * 16]);
+    assert_eq!(stream.feed(&line(4), &mut slots, &mut slot0), Ok(4));
+    assert_eq!(slots[..], payload(4));
+    let r = stream.end().unwrap();
+    assert_eq!((r.start, r.used), (8 * 4_096, 4));
+
+    // After an end nothing is taken.
+    let was = *stream.octets();
+    assert_eq!(stream.end(), Err(Refusal::Ended));
+    let fed = stream.feed(&[0; 4], &mut slots, &mut slot0);
+    assert_eq!(fed, Err(Refusal::Ended));
+    assert_eq!(*stream.octets(), was);
 }
 
 #[test]

@@ -59,16 +59,16 @@ fn refusals() {
         assert_eq!(refusal.number(), *number);
         assert!(!refusal.to_string().is_empty());
     }
-    assert_eq!(named.len(), 17);
+    assert_eq!(named.len(), 19);
     let basic = refusal(15).unwrap();
     assert_eq!(basic, Refusal::BasicOnly { place: 7 });
     assert!(basic.to_string().contains("place 7 "));
 }
 
 #[test]
-#[should_panic(expected = "does not name: 17")]
+#[should_panic(expected = "does not name: 18")]
 fn no_refusal() {
-    refusal(17);
+    refusal(18);
 }
 
 /// The cause with this number, in the place of the header's `JK_CAUSE`.
@@ -130,6 +130,7 @@ fn lengths_and_version() {
     let says = |text: String| assert!(HEADER.contains(&text), "{text}");
     says(format!("#define JK_ANSWER {} ", sys::ANSWER));
     says(format!("#define JK_STATE {} ", sys::STATE));
+    says(format!("#define JK_STREAM_OCTETS {} ", sys::STREAM_OCTETS));
     says(format!(
         "#define JK_VERSION \"{}\"\n",
         env!("CARGO_PKG_VERSION")

@@ -33,7 +33,7 @@ unpacked-maps octets e = (map-length 3 (omega arith), map-length 35 (omega arith
 
 -- Unpacking a packed state gives it back.
 
-flag-back : (b : Bool) → eqb (boolByte b) 1 ≡ b
+pub flag-back : (b : Bool) → eqb (boolByte b) 1 ≡ b
 flag-back true = refl
 flag-back false = refl
 

@@ -1,3 +1,6 @@
 pub mod Laws
+pub mod StreamLaws
+pub mod StreamBack
 pub mod RunLaws
+pub mod StreamRuns
 pub mod Maps

@@ -3,9 +3,10 @@
 use Prim.Native.Nat.{ℕ}
 use mathlib.Core.Path.{_≡_}
 use mathlib.Core.List.{List}
-use lib.ListN.{length}
+use lib.ListN.{length, replicate}
 use Rattle.align.specs.Why.{why, whyNumber}
 use Rattle.read.specs.Entry.{Read, reading}
+use Rattle.stream.specs.Entry.{Feeds, ending}
 use Rattle.write.specs.Entry.{Wrote, writing}
 use Rattle.signals.specs.Entry.{Signalled, signalling}
 use Rattle.signalled.specs.Entry as signalled
@@ -13,11 +14,29 @@ use Rattle.exchange.specs.Mapping.{Mapped}
 use Rattle.exchange.specs.Machine.{startState, hosted, keyed, crossed}
 use Rattle.jikhvanto.specs.Octets.{stateOf, octetsOf, stored, hostStored, readingPlaces, whyPlaces}
 use Rattle.jikhvanto.specs.Octets.{signallingPlaces, pairPlaces}
+use Rattle.jikhvanto.specs.Stream.{streamOf, windowOf, feedingOf, feedStored, endStored}
 
 pub record JkRead (image payload slot0 : List ℕ) (r : ℕ) (payload' slot0' answer' : List ℕ) : Type 0 where
   pub its-outputs : Read image payload slot0 (reading image (length payload) (length slot0)) payload' slot0'
   pub its-number : r ≡ reading image (length payload) (length slot0) .number
   pub its-answer : answer' ≡ readingPlaces (reading image (length payload) (length slot0))
+
+-- a stream that nothing has come to is all zeros
+pub record JkStreamStart (stream' : List ℕ) : Type 0 where
+  pub its-stream : stream' ≡ replicate 2144 0
+
+pub record JkFeed (stream chunk payload slot0 : List ℕ) (r : ℕ)
+    (stream' payload' slot0' answer' : List ℕ) : Type 0 where
+  pub its-outputs : let f = feedingOf stream chunk (length payload) (length slot0) in
+      Feeds (streamOf stream) (windowOf stream) chunk payload slot0 f (windowOf stream') payload' slot0'
+  pub its-number : r ≡ feedingOf stream chunk (length payload) (length slot0) .number
+  pub its-stream : stream' ≡ feedStored stream chunk (length payload) (length slot0)
+  pub its-answer : answer' ≡ pairPlaces r (feedingOf stream chunk (length payload) (length slot0) .multiframes)
+
+pub record JkEnd (stream : List ℕ) (r : ℕ) (stream' answer' : List ℕ) : Type 0 where
+  pub its-number : r ≡ ending (streamOf stream) .reading .number
+  pub its-stream : stream' ≡ endStored stream
+  pub its-answer : answer' ≡ readingPlaces (ending (streamOf stream) .reading)
 
 pub record JkSignals (image abcd : List ℕ) (r : ℕ) (abcd' answer' : List ℕ) : Type 0 where
   pub its-output : Signalled image abcd (signalling image (length abcd)) abcd'

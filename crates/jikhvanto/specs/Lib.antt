@@ -1,3 +1,4 @@
 pub mod Octets
+pub mod Stream
 pub mod Calls
 pub mod Runs

@@ -1,20 +1,30 @@
 // The C interface: each entry of the kit, over a state in lent octets and an answer in lent places.
 ghost use mathlib.Core.Path.{_≡_};
-ghost use mathlib.Core.List.{[], _∷_};
-ghost use Prim.Native.Nat.{_+_, _≤_};
-ghost use lib.ListN.{length};
+ghost use mathlib.Core.List.{[], _∷_, _++_};
+ghost use Prim.Native.Nat.{_+_, _≤_, _<_};
+ghost use lib.ListN.{length, drop};
 ghost use lib.Dec.{eqb};
+ghost use Rattle.base.specs.Tab.{tab};
+ghost use Rattle.align.specs.Place.{placeOf};
 ghost use Rattle.align.specs.Why.{whyNumber};
+ghost use Rattle.stream.specs.Entry.{Feeds};
 ghost use Rattle.exchange.specs.Machine.{kindOf};
 ghost use Rattle.jikhvanto.specs.Octets.{mapAt, stateOf, octetsOf, stored, readingPlaces, whyPlaces};
 ghost use Rattle.jikhvanto.specs.Octets.{signallingPlaces, answerOf, pairPlaces};
-ghost use Rattle.jikhvanto.specs.Calls.{JkRead, JkSignals, JkWhy, JkWrite, JkWriteSignalled};
+ghost use Rattle.jikhvanto.specs.Stream.{numberAt, foundBy, streamOf, foundNumber, kOf, streamNumbers};
+ghost use Rattle.jikhvanto.specs.Stream.{windowOf, speltOctet, speltNumbers, feedStored};
+ghost use Rattle.jikhvanto.specs.Calls.{JkRead, JkStreamStart, JkFeed, JkEnd};
+ghost use Rattle.jikhvanto.specs.Calls.{JkSignals, JkWhy, JkWrite, JkWriteSignalled};
 ghost use Rattle.jikhvanto.specs.Calls.{JkStart, JkHost, JkKey, JkBoundary, JkMap};
+use align::Found;
 use align::Why;
 use exchange::Answered;
 use exchange::State;
+use growth::Line;
 use read::Reading;
 use signals::Signalling;
+use stream::Fed;
+use stream::Stream;
 
 // a map, from 32 octets to 32 others
 fn copy(from: &[u8], to: &mut [u8])
@@ -90,6 +100,173 @@ fn store(answered: Answered, octets: &mut [u8; 99]) -> u64
         *octets = pack(state);
     }
     number
+}
+
+// number i of a stream's twelve
+fn number_at(octets: &[u8], i: usize) -> u64
+    requires { ⌜ (i < 12) × (length (now octets) ≡ 2144) ⌝ }
+    ensures { λ r. ⌜ r ≡ numberAt i (now (octets .entry)) ⌝ }
+{
+    line::window(octets, 8 * i)
+}
+
+// the same, as large as a length
+fn length_at(octets: &[u8], i: usize) -> usize
+    requires { ⌜ (i < 12) × (length (now octets) ≡ 2144) ⌝ }
+    ensures { λ r. ⌜ r ≡ numberAt i (now (octets .entry)) ⌝ }
+{
+    number_at(octets, i) as usize
+}
+
+// what is found, by its number
+fn found_by(number: u64, place: usize, k: usize) -> Found
+    ensures { λ r. ⌜ r ≡ foundBy number place k ⌝ }
+{
+    if number == 2 {
+        return Found::At { place, k };
+    }
+    if number == 1 {
+        return Found::BasicAt { place };
+    }
+    Found::Nothing
+}
+
+// the stream that the octets are
+fn unpack_stream(octets: &[u8]) -> Stream
+    requires { ⌜ length (now octets) ≡ 2144 ⌝ }
+    ensures { λ r. ⌜ r ≡ streamOf (now (octets .entry)) ⌝ }
+{
+    let found = found_by(
+        number_at(octets, 3),
+        length_at(octets, 4),
+        length_at(octets, 5),
+    );
+    let line = Line {
+        before: length_at(octets, 2),
+        found: found,
+        used: length_at(octets, 6),
+        lost: length_at(octets, 7),
+        words: length_at(octets, 8),
+        errored: length_at(octets, 9),
+        farend: length_at(octets, 10),
+        wordbits: length_at(octets, 11),
+    };
+    Stream {
+        ended: number_at(octets, 0) == 1,
+        fill: length_at(octets, 1),
+        line: line,
+    }
+}
+
+// the number of what is found, its place, and its k
+
+fn found_number(found: Found) -> u64
+    ensures { λ r. ⌜ r ≡ foundNumber found ⌝ }
+{
+    match found {
+        Found::At { place, k } => 2,
+        Found::BasicAt { place } => 1,
+        Found::Nothing => 0,
+    }
+}
+
+fn place_of(found: Found) -> usize
+    ensures { λ r. ⌜ r ≡ placeOf found ⌝ }
+{
+    match found {
+        Found::At { place, k } => place,
+        Found::BasicAt { place } => place,
+        Found::Nothing => 0,
+    }
+}
+
+fn k_of(found: Found) -> usize
+    ensures { λ r. ⌜ r ≡ kOf found ⌝ }
+{
+    match found {
+        Found::At { place, k } => k,
+        Found::BasicAt { place } => 0,
+        Found::Nothing => 0,
+    }
+}
+
+// the numbers of a stream
+fn stream_numbers(stream: Stream) -> [u64; 12]
+    ensures { λ r. ⌜ r ≡ streamNumbers stream ⌝ }
+{
+    let line = stream.line;
+    let found = line.found;
+    [
+        stream.ended as u64,
+        stream.fill as u64,
+        line.before as u64,
+        found_number(found),
+        place_of(found) as u64,
+        k_of(found) as u64,
+        line.used as u64,
+        line.lost as u64,
+        line.words as u64,
+        line.errored as u64,
+        line.farend as u64,
+        line.wordbits as u64,
+    ]
+}
+
+// the eight octets that spell a number, by value: they compile to a swap and a store
+fn octets_of(n: u64) -> [u8; 8]
+    ensures { λ r. ⌜ r ≡ tab 8 (speltOctet n) ⌝ }
+{
+    [
+        ((n >> 56) % 256) as u8,
+        ((n >> 48) % 256) as u8,
+        ((n >> 40) % 256) as u8,
+        ((n >> 32) % 256) as u8,
+        ((n >> 24) % 256) as u8,
+        ((n >> 16) % 256) as u8,
+        ((n >> 8) % 256) as u8,
+        (n % 256) as u8,
+    ]
+}
+
+// writes them
+fn spell(n: u64, octets: &mut [u8])
+    requires { ⌜ length (now octets) ≡ 8 ⌝ }
+    ensures { λ _. ⌜ now (octets .exit) ≡ tab 8 (speltOctet n) ⌝ }
+{
+    let spelt = octets_of(n);
+    for j in 0..8 {
+        octets[j] = spelt[j];
+    }
+}
+
+// the numbers of a stream, to the front of its octets
+fn store_numbers(stream: Stream, octets: &mut [u8])
+    requires { ⌜ length (now octets) ≡ 2144 ⌝ }
+    ensures { λ _. ⌜ now (octets .exit) ≡ speltNumbers (streamNumbers stream) ++ drop 96 (now (octets .entry)) ⌝ }
+{
+    let numbers = stream_numbers(stream);
+    for i in 0..12 {
+        let a = 8 * i;
+        spell(numbers[i], &mut octets[a..a + 8]);
+    }
+}
+
+// a chunk to the stream that the octets are: what it makes of them, and is answered
+fn feed(octets: &mut [u8], chunk: &[u8], payload: &mut [u8], slot0: &mut [u8]) -> Fed
+    requires { ⌜ length (now octets) ≡ 2144 ⌝ }
+    ensures { λ r. ⌜ Feeds (streamOf (now (octets .entry))) (windowOf (now (octets .entry)))
+        (now (chunk .entry)) (now (payload .entry)) (now (slot0 .entry))
+        r (windowOf (now (octets .exit))) (now (payload .exit)) (now (slot0 .exit))
+        × (now (octets .exit) ≡ feedStored (now (octets .entry)) (now (chunk .entry))
+        (length (now (payload .entry))) (length (now (slot0 .entry)))) ⌝ }
+{
+    let stream = unpack_stream(octets);
+    let fed = stream::feed(stream, &mut octets[96..2144], chunk, payload, slot0);
+    if fed.number == 0 {
+        let then = fed.stream;
+        store_numbers(then, octets);
+    }
+    fed
 }
 
 // a reading, in its places
@@ -173,6 +350,46 @@ pub extern "C" fn jk_read(
 {
     let r = read::read(image, payload, slot0);
     give_reading(r, answer);
+    r.number
+}
+
+// a stream begins
+#[no_mangle]
+pub extern "C" fn jk_stream_start(stream: &mut [u8; 2144])
+    ensures { λ _. ⌜ JkStreamStart (now (stream .exit)) ⌝ }
+{
+    *stream = [0; 2144];
+}
+
+// a stream is fed a chunk
+#[no_mangle]
+pub extern "C" fn jk_feed(
+    stream: &mut [u8; 2144],
+    chunk: &[u8],
+    payload: &mut [u8],
+    slot0: &mut [u8],
+    answer: &mut [u64; 16],
+) -> u64
+    ensures { λ r. ⌜ JkFeed (now (stream .entry)) (now (chunk .entry)) (now (payload .entry)) (now (slot0 .entry))
+        r (now (stream .exit)) (now (payload .exit)) (now (slot0 .exit)) (now (answer .exit)) ⌝ }
+{
+    let fed = feed(stream, chunk, payload, slot0);
+    give_pair(fed.number, fed.multiframes as u64, answer);
+    fed.number
+}
+
+// a stream is ended
+#[no_mangle]
+pub extern "C" fn jk_end(stream: &mut [u8; 2144], answer: &mut [u64; 16]) -> u64
+    ensures { λ r. ⌜ JkEnd (now (stream .entry)) r (now (stream .exit)) (now (answer .exit)) ⌝ }
+{
+    let ended = stream::end(unpack_stream(stream));
+    let r = ended.reading;
+    give_reading(r, answer);
+    if r.number == 0 {
+        let then = ended.stream;
+        store_numbers(then, stream);
+    }
     r.number
 }
 
