@@ -1,26 +1,32 @@
 -- The proof of Accepts: from each number 0 to what it tells of the call, and back.
-use Prim.Native.Nat.{ℕ, zero, suc, _*_, _/_, _%_, _≤_, _<_}
+use Prim.Native.Nat.{ℕ, zero, suc, _+_, _*_, _/_, _%_, _≤_, _<_}
 use mathlib.Core.Path.{_≡_, refl, sym, ap}
-use mathlib.Core.Bool.{Bool, true, false, not, _&&_, _||_, and-eq-true-iff}
+use mathlib.Core.Bool.{Bool, true, false, not, _&&_, _||_, true≢false, and-eq-true-iff}
 use mathlib.Core.List.{List}
 use mathlib.Core.Logic.{_↔_, _⊎_, inl, inr}
 use mathlib.Core.Option.{Option, none, some}
+use mathlib.Mathlib.Data.Bool.Basic.{or-eq-false-eq-eq-false-and-eq-false}
 use native.Mathlib.Decide.{decLt}
 use native.Mathlib.Omega.{arith}
 use borrow.Author.Tests.{eq-eqb, eqb-true, leb-true, le-leb, lt-ltb, le-ltb, ltb-false, not-false}
-use lib.Dec.{eqb, leb, ltb}
+use lib.Dec.{eqb, leb, ltb, lit≤}
 use lib.ListN.{length, getD, List·getD-eq-default}
 use Rattle.base.proofs.AnswerLaws.{first-tells, tells-first}
 use Rattle.base.proofs.TabLaws.{at-all}
 use Rattle.e1.specs.Payload.{multiframes, sized}
-use Rattle.align.specs.Place.{Standing, firstStanding}
+use Rattle.align.specs.Place.{Standing, firstStanding, numberOf, placeOf}
 use Rattle.align.specs.Why.{whyRefusal}
+use Rattle.align.specs.declared.Found.{Found}
+use Rattle.align.specs.declared.Found.the-variants.{At, BasicAt, Nothing}
 use Rattle.align.proofs.Laws.{first-stands, none-stands}
 use Rattle.align.proofs.WhyLaws.{asked}
 use Rattle.read.specs.Entry as reads
 use Rattle.read.specs.Entry.{placeIn, usedIn, unplaced}
 use Rattle.read.proofs.EntryLaws as laws
 use Rattle.read.proofs.EntryLaws.{ready}
+use Rattle.chunk.specs.Taking.{lacksRoom}
+use Rattle.stream.specs.Entry.{isLarge, isFar, isOver, octetsCame, grownOf, feedRefusals, feedRefusal, endRefusals, endRefusal}
+use Rattle.stream.specs.declared.Stream.{Stream}
 use Rattle.write.specs.Entry as writes
 use Rattle.write.specs.Entry.{overheadLimit, overheadFits, faults}
 use Rattle.write.proofs.Calls.{Fits, accepted-call}
@@ -35,7 +41,7 @@ use Rattle.exchange.specs.declared.State.{State}
 use Rattle.exchange.specs.Mapping.{mapRefusal, mapRefusals}
 use Rattle.exchange.specs.Machine.{kindOf, aOf, bOf, outside, locked, unstaged, hostRefusal, keyRefusal, keyRefusals}
 use Rattle.exchange.proofs.Laws.{accepted-passed, kind-named, slot-named, entry-named, reads-alone, within}
-use Rattle.claims.specs.Accepts.{ToRead, ToHear, ToAsk, ToWrite, ToSignal, ToHost, ToMap, Accepts}
+use Rattle.claims.specs.Accepts.{ToRead, Going, ToFeed, ToEnd, ToHear, ToAsk, ToWrite, ToSignal, ToHost, ToMap, Accepts}
 
 -- which lengths a payload may have
 sized-is : (l : ℕ) → sized l ≡ true ↔ (n : ℕ) × (1 ≤ n) × (n ≤ 16) × (l ≡ 496 * n)
@@ -72,6 +78,130 @@ read-is s a b = (there, λ t. back t (firstStanding s) refl)
         laws.accepts s a b (t .good) w e
         (rw (le-ltb a (496 * usedIn s) (t .payload), le-ltb b (16 * usedIn s) (t .slot0)))
     back t none e = absurd (none-stands s .0 e (t .p) (t .k) (t .stands))
+
+-- a place stands where neither number of the search applies
+pub stood : (f : Found) → eqb (numberOf f) 3 ≡ false → eqb (numberOf f) 15 ≡ false → (p : ℕ) × (k : ℕ) × (f ≡ At p k)
+stood (At p k) e d = (p, k, refl)
+stood (BasicAt p) e d = absurd (true≢false d)
+stood Nothing e d = absurd (true≢false e)
+
+-- a stream that is not over
+module _ (st : Stream) where
+  either : (a b : Bool) → a || b ≡ false → (a ≡ false) × (b ≡ false)
+  either a b e = or-eq-false-eq-eq-false-and-eq-false a b .0 e
+
+  near : (f : Found) → isFar f ≡ false ↔ ((placeOf f ≤ 134217728) × ((p k : ℕ) → f ≡ At p k → k ≤ 134217728))
+  unfolding isFar
+  near (At p k) = (
+    λ e.
+        let h = either (isLarge p) (isLarge k) e in
+        (ltb-false 134217728 p (h .0), λ q j d. let z : k ≡ j = cc in omega (arith, ltb-false 134217728 k (h .1))),
+    λ h. rw (le-ltb 134217728 p (h .0), le-ltb 134217728 k (h .1 p k refl)),
+  )
+  near (BasicAt p) = (
+    λ e. (ltb-false 134217728 p e, λ q j d. let z : _≡_ {A = ℕ} 0 1 = cc in absurd (omega arith)),
+    λ h. le-ltb 134217728 p (h .0),
+  )
+  near Nothing = (
+    λ e. (lit≤ tt, λ q j d. let z : _≡_ {A = ℕ} 0 1 = cc in absurd (omega arith)),
+    λ h. refl,
+  )
+
+  going-is : isOver st ≡ false ↔ Going st
+  unfolding isOver
+  going-is = (there, back)
+    where
+      there : isOver st ≡ false → Going st
+      there e =
+          let c = st .line in
+          let h₉ = either _ (isLarge (c .wordbits)) e in
+          let h₈ = either _ (isLarge (c .farend)) (h₉ .0) in
+          let h₇ = either _ (isLarge (c .errored)) (h₈ .0) in
+          let h₆ = either _ (isLarge (c .words)) (h₇ .0) in
+          let h₅ = either _ (isLarge (c .lost)) (h₆ .0) in
+          let h₄ = either _ (isLarge (c .used)) (h₅ .0) in
+          let h₃ = either _ (isLarge (c .before)) (h₄ .0) in
+          let h₂ = either _ (isFar (c .found)) (h₃ .0) in
+          let h₁ = either (st .ended) (ltb 2048 (st .fill)) (h₂ .0) in
+          let f = near (c .found) .0 (h₂ .1) in
+          record {
+            not-ended = h₁ .0;
+            fill = ltb-false 2048 (st .fill) (h₁ .1);
+            before = ltb-false 134217728 (c .before) (h₃ .1);
+            place = f .0;
+            k = f .1;
+            used = ltb-false 134217728 (c .used) (h₄ .1);
+            lost = ltb-false 134217728 (c .lost) (h₅ .1);
+            words = ltb-false 134217728 (c .words) (h₆ .1);
+            errored = ltb-false 134217728 (c .errored) (h₇ .1);
+            farend = ltb-false 134217728 (c .farend) (h₈ .1);
+            wordbits = ltb-false 134217728 (c .wordbits) (h₉ .1);
+          }
+
+      back : Going st → isOver st ≡ false
+      back h =
+          let c = st .line in
+          rw (
+            h .not-ended,
+            le-ltb 2048 (st .fill) (h .fill),
+            near (c .found) .1 (h .place, h .k),
+            le-ltb 134217728 (c .before) (h .before),
+            le-ltb 134217728 (c .used) (h .used),
+            le-ltb 134217728 (c .lost) (h .lost),
+            le-ltb 134217728 (c .words) (h .words),
+            le-ltb 134217728 (c .errored) (h .errored),
+            le-ltb 134217728 (c .farend) (h .farend),
+            le-ltb 134217728 (c .wordbits) (h .wordbits),
+          )
+
+  feed-is : (window t : List ℕ) (a b : ℕ) → feedRefusal st window t a b ≡ 0 ↔ ToFeed st window t a b
+  unfolding feedRefusal lacksRoom
+  feed-is window t a b = (there, back)
+    where
+      m : ℕ
+      m = grownOf st window t .multiframes
+
+      there : feedRefusal st window t a b ≡ 0 → ToFeed st window t a b
+      there e =
+          let d = rw e at (first-tells (feedRefusals st window t a b) refl) in
+          let o = either (isOver st) (not (eqb (length window) 2048)) (d .0) in
+          let f = either (ltb a (496 * m)) (ltb b (16 * m)) (d .1 .1 .0) in
+          record {
+            going = going-is .0 (o .0);
+            sized = eqb-true (length window) 2048 (not-false _ (o .1));
+            limit = ltb-false 16777216 (octetsCame st + length t) (d .1 .0);
+            payload = ltb-false a (496 * m) (f .0);
+            slot0 = ltb-false b (16 * m) (f .1);
+          }
+
+      back : ToFeed st window t a b → feedRefusal st window t a b ≡ 0
+      back h =
+          rw (
+            going-is .1 (h .going),
+            eq-eqb (length window) 2048 (h .sized),
+            le-ltb 16777216 (octetsCame st + length t) (h .limit),
+            le-ltb a (496 * m) (h .payload),
+            le-ltb b (16 * m) (h .slot0),
+          )
+
+  end-is : endRefusal st ≡ 0 ↔ ToEnd st
+  unfolding endRefusal
+  end-is = (there, back)
+    where
+      there : endRefusal st ≡ 0 → ToEnd st
+      there e =
+          let d = rw e at (first-tells (endRefusals st) refl) in
+          let w = stood (st .line .found) (d .1 .1 .0) (d .1 .1 .1 .0) in
+          record {
+            going = going-is .0 (d .0);
+            long = ltb-false (octetsCame st) 2048 (d .1 .0);
+            p = w .0;
+            k = w .1;
+            stands = w .2;
+          }
+
+      back : ToEnd st → endRefusal st ≡ 0
+      back h = rw (going-is .1 (h .going), le-ltb (octetsCame st) 2048 (h .long), h .stands)
 
 pub signals-is : (s : List ℕ) (a : ℕ) → signals.refusal s a ≡ 0 ↔ ToHear s a
 unfolding signals.refusal
@@ -251,6 +381,8 @@ pub accepts : Accepts
 accepts =
     record {
       read = read-is;
+      feed = feed-is;
+      end = end-is;
       signals = signals-is;
       why = why-is;
       write = write-is;

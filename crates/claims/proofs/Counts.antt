@@ -18,9 +18,9 @@ use Rattle.crc.proofs.Laws.{same}
 use Rattle.e1.specs.Frame.{frameAt}
 use Rattle.e1.specs.Block.{agrees}
 use Rattle.read.specs.Entry.{accept, startIn, usedIn, Read}
-use Rattle.read.specs.Reading.{wrong, wordErrors, wordBits, compared, agreesIn, errored, zerosE, farEnd}
+use Rattle.measure.specs.Reading.{wrong, wordErrors, wordBits, compared, agreesIn, errored, zerosE, farEnd}
 use Rattle.read.specs.declared.Reading.{Reading}
-use Rattle.read.proofs.LossLaws.{wrong-word}
+use Rattle.measure.proofs.LossLaws.{wrong-word}
 use Rattle.read.proofs.EntryLaws.{read-accepted, read-either}
 use Rattle.claims.specs.Counts.{Counted, Agrees, WrongWord, WrongBit, bitEAt, FarError, Counts}
 use Rattle.claims.proofs.WordBits.{wrongIn, bits-counted, bits-least, bits-most, one-more-bit}
@@ -129,7 +129,7 @@ module _ (s : List ℕ) (q g : ℕ) where
   unfolding errored agrees
   differing = named (counted (compared g) (λ b. not (agreesIn s q b))) (λ b. not-equal _ _)
 
-  none-differs : errored s q g ≡ 0 ↔ ((b : ℕ) → b + 1 < 2 * g → Agrees s q b)
+  pub none-differs : errored s q g ≡ 0 ↔ ((b : ℕ) → b + 1 < 2 * g → Agrees s q b)
   none-differs = (
     λ e b h. same _ _ (none-has differing .0 e b (omega arith)),
     λ a. none-has differing .1 (λ b h n. n (a b (omega arith))),

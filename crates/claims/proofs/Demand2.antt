@@ -16,15 +16,15 @@ use Rattle.base.proofs.AnswerLaws.{accepted-so}
 use Rattle.e1.specs.Frame.{frameAt, slotAt, signal}
 use Rattle.e1.proofs.WordLaws.{word-holds}
 use Rattle.e1.specs.Payload.{indexOf, multiframes}
-use Rattle.align.specs.Place.{firstBasic, foundIn}
+use Rattle.align.specs.Place.{firstBasic, foundIn, placeOf}
 use Rattle.align.specs.Stands.{Basic, BasicFirst, Stands}
 use Rattle.align.specs.declared.Found.{Found}
 use Rattle.align.specs.declared.Found.the-variants.{At, BasicAt, Nothing}
-use Rattle.read.specs.Reading.{whole, loss, lostAt, causeOf, usedOf, slots, payloadOf, slot0Of, wordErrors, wordBits}
-use Rattle.read.specs.Reading.{compared, errored, zerosE, farEnd}
+use Rattle.measure.specs.Reading.{whole, loss, lostAt, causeOf, usedOf, slots, payloadOf, slot0Of, wordErrors, wordBits}
+use Rattle.measure.specs.Reading.{compared, errored, zerosE, farEnd}
 use Rattle.read.specs.Entry as reading
 use Rattle.read.specs.Entry.{Read, GoodLength}
-use Rattle.read.proofs.Laws as reads
+use Rattle.measure.proofs.Laws as reads
 use Rattle.read.proofs.EntryLaws.{told-3, told-15, refused-3, refused-15, accepts, place-is, start-is}
 use Rattle.read.proofs.EntryLaws.{read-number, read-accepted, read-refused, read-place}
 use Rattle.crc.proofs.Division.{check-divides, check-unique}
@@ -39,11 +39,11 @@ use Rattle.write.proofs.Calls.{wrote-check, wrote-line, wrote-accepted, two-cal
 use Rattle.claims.proofs.Framed as unbroken
 use Rattle.claims.proofs.Framed.{Framed}
 
--- an accepted call
-module _ (s payload slot0 : List ℕ) (r : Reading) (payload' slot0' : List ℕ) (h : Read s payload slot0 r payload' slot0') (z : r .number ≡ 0) where
+-- what is accepted of a line, of any length
+module _ (s : List ℕ) (r : Reading) (is : r ≡ reading.accept s) where
   -- a value of it
   got {ℓ} : {A : Type ℓ} (f : Reading → A) → f r ≡ f (reading.accept s)
-  got f = ap f (read-accepted s payload slot0 r payload' slot0' h z)
+  got f = ap f is
 
   from : r .start ≡ reading.startIn s
   unfolding reading.accept
@@ -57,53 +57,64 @@ module _ (s payload slot0 : List ℕ) (r : Reading) (payload' slot0' : List ℕ)
   unfolding reading.accept
   upto = got (λ x. x .used)
 
-  front : payload' ≡ payloadOf s (r .start) (r .used) ++ drop (496 * r .used) payload
-  front =
-      h .its-payload ∙ accepted-so (r .number) _ payload z
-      ∙ sym (ap₂ (λ x y. payloadOf s x y ++ drop (496 * y) payload) from upto)
-
-  front-0 : slot0' ≡ slot0Of s (r .start) (r .used) ++ drop (16 * r .used) slot0
-  front-0 =
-      h .its-slot0 ∙ accepted-so (r .number) _ slot0 z
-      ∙ sym (ap₂ (λ x y. slot0Of s x y ++ drop (16 * y) slot0) from upto)
-
-  pub octet-read : (f j : ℕ) → f < 16 * r .used → 1 ≤ j → j ≤ 31
+-- and its outputs, which it fills at their front
+module _ (s payload slot0 : List ℕ) (r : Reading) (payload' slot0' : List ℕ) (is : r ≡ reading.accept s) (p k : ℕ)
+    (at : foundIn s ≡ At p k) (behind behind-0 : List ℕ)
+    (front : payload' ≡ payloadOf s (reading.startIn s) (reading.usedIn s) ++ behind)
+    (front-0 : slot0' ≡ slot0Of s (reading.startIn s) (reading.usedIn s) ++ behind-0) where
+  octet-read : (f j : ℕ) → f < 16 * r .used → 1 ≤ j → j ≤ 31
       → getD payload' (indexOf f j) 0 ≡ octetAt s (slotAt (r .start) f j)
   octet-read f j l a b =
       let p = payloadOf s (r .start) (r .used) in
-      ap (λ x. getD x (indexOf f j) 0) front
-      ∙ List·getD-append p (drop (496 * r .used) payload) 0 (indexOf f j)
-      (omega (arith, reads.payload-length s (r .start) (r .used)))
+      ap (λ x. getD x (indexOf f j) 0) (front ∙ sym (ap₂ (λ x y. payloadOf s x y ++ behind) (from s r is) (upto s r is)))
+      ∙ List·getD-append p behind 0 (indexOf f j) (omega (arith, reads.payload-length s (r .start) (r .used)))
       ∙ reads.slot-of s (r .start) (16 * r .used) f j l a b
 
-  pub octet-0-read : (f : ℕ) → f < 16 * r .used → getD slot0' f 0 ≡ octetAt s (slotAt (r .start) f 0)
+  octet-0-read : (f : ℕ) → f < 16 * r .used → getD slot0' f 0 ≡ octetAt s (slotAt (r .start) f 0)
   octet-0-read f l =
       let o = slot0Of s (r .start) (r .used) in
-      ap (λ x. getD x f 0) front-0
-      ∙ List·getD-append o (drop (16 * r .used) slot0) 0 f (omega (arith, reads.slot0-length s (r .start) (r .used)))
+      ap (λ x. getD x f 0) (front-0 ∙ sym (ap₂ (λ x y. slot0Of s x y ++ behind-0) (from s r is) (upto s r is)))
+      ∙ List·getD-append o behind-0 0 f (omega (arith, reads.slot0-length s (r .start) (r .used)))
       ∙ reads.slot0-of s (r .start) (16 * r .used) f l
 
-  pub reads-so : Accepted s payload slot0 r payload' slot0'
-  unfolding reading.accept reading.startIn
-  reads-so =
-      let d = read-place s payload slot0 r payload' slot0' h z in
+  pub accepted-of : Accepted s payload slot0 r payload' slot0'
+  unfolding reading.accept reading.placeIn reading.startIn
+  accepted-of =
+      let from = from s r is in
+      let all = all s r is in
+      let upto = upto s r is in
+      let here : p ≡ r .place = sym (got s r is (λ x. x .place) ∙ ap placeOf at) in
+      let found : foundIn s ≡ At (r .place) k = at ∙ ap (λ p. At p k) here in
       record {
-        k = d .0;
-        found = finds-at s (r .place) (d .0) .1 (d .1);
-        first = d .1;
+        k = k;
+        found = found;
+        first = finds-at s (r .place) k .0 found;
         start = from;
         all-whole = all ∙ sym (ap (whole s) from);
-        lost = got (λ x. x .lost) ∙ sym (ap₂ (λ x y. lostAt (loss s x y)) from all);
-        cause = got (λ x. x .cause) ∙ sym (ap₂ (λ x y. causeOf (loss s x y)) from all);
+        lost = got s r is (λ x. x .lost) ∙ sym (ap₂ (λ x y. lostAt (loss s x y)) from all);
+        cause = got s r is (λ x. x .cause) ∙ sym (ap₂ (λ x y. causeOf (loss s x y)) from all);
         used = upto ∙ sym (ap₂ (λ x y. usedOf (loss s x y) y) from all);
-        words = got (λ x. x .words) ∙ sym (ap₂ (wordErrors s) from upto);
-        word-bits = got (λ x. x .wordbits) ∙ sym (ap₂ (wordBits s) from upto);
-        compares = got (λ x. x .compared) ∙ sym (ap compared upto);
-        errors = got (λ x. x .errored) ∙ sym (ap₂ (errored s) from upto);
-        far-end = got (λ x. x .farend) ∙ sym (ap₂ (farEnd s) from upto);
+        words = got s r is (λ x. x .words) ∙ sym (ap₂ (wordErrors s) from upto);
+        word-bits = got s r is (λ x. x .wordbits) ∙ sym (ap₂ (wordBits s) from upto);
+        compares = got s r is (λ x. x .compared) ∙ sym (ap compared upto);
+        errors = got s r is (λ x. x .errored) ∙ sym (ap₂ (errored s) from upto);
+        far-end = got s r is (λ x. x .farend) ∙ sym (ap₂ (farEnd s) from upto);
         octet = octet-read;
         octet-0 = octet-0-read;
       }
+
+-- an accepted call
+module _ (s payload slot0 : List ℕ) (r : Reading) (payload' slot0' : List ℕ) (h : Read s payload slot0 r payload' slot0') (z : r .number ≡ 0) where
+  front : payload' ≡ payloadOf s (reading.startIn s) (reading.usedIn s) ++ drop (496 * reading.usedIn s) payload
+  front = h .its-payload ∙ accepted-so (r .number) _ payload z
+
+  pub reads-so : Accepted s payload slot0 r payload' slot0'
+  reads-so =
+      let d = read-place s payload slot0 r payload' slot0' h z in
+      accepted-of s payload slot0 r payload' slot0' (read-accepted s payload slot0 r payload' slot0' h z)
+      (r .place) (d .0) (finds-at s (r .place) (d .0) .1 (d .1))
+      (drop (496 * reading.usedIn s) payload) (drop (16 * reading.usedIn s) slot0)
+      front (h .its-slot0 ∙ accepted-so (r .number) _ slot0 z)
 
 -- the line that is written from p, o and c
 module _ (p o : List ℕ) (c n : ℕ) (g : Inputs p o c n) where
@@ -187,14 +198,17 @@ module _ (p o : List ℕ) (c n : ℕ) (g : Inputs p o c n) where
         a : Accepted line payload slot0 r payload' slot0'
         a = reads-so line payload slot0 r payload' slot0' h number
 
+        taken : r ≡ reading.accept line
+        taken = read-accepted line payload slot0 r payload' slot0' h number
+
         at-0 : r .start ≡ 0
-        at-0 = from line payload slot0 r payload' slot0' h number ∙ start
+        at-0 = from line r taken ∙ start
 
         all-n : r .used ≡ n
-        all-n = upto line payload slot0 r payload' slot0' h number ∙ used-n
+        all-n = upto line r taken ∙ used-n
 
         value : (f : Reading → ℕ) → f r ≡ f (reading.accept line)
-        value f = got line payload slot0 r payload' slot0' h number f
+        value f = got line r taken f
 
         reads-clean : ReadBack p o n r payload' slot0'
         unfolding slots farEnd reading.accept
@@ -204,7 +218,7 @@ module _ (p o : List ℕ) (c n : ℕ) (g : Inputs p o c n) where
               place = value (λ x. x .place)
                   ∙ sym (place-is line (record { place = 0; k = 0 }) (unbroken.stands-at-once line n framed four));
               start = at-0;
-              whole = all line payload slot0 r payload' slot0' h number ∙ whole-n;
+              whole = all line r taken ∙ whole-n;
               used = all-n;
               lost = value (λ x. x .lost) ∙ ap lostAt no-loss;
               cause = value (λ x. x .cause) ∙ ap causeOf no-loss;
@@ -214,7 +228,7 @@ module _ (p o : List ℕ) (c n : ℕ) (g : Inputs p o c n) where
               errored = a .errors ∙ ap₂ (errored line) at-0 all-n ∙ unbroken.none-errored line n framed;
               farend = a .far-end ∙ ap₂ (farEnd line) at-0 all-n ∙ sum-ext n (zerosE line 0) (zeroEs o) e-bits;
               payload = ap (take (496 * n)) (front line payload slot0 r payload' slot0' h number
-                  ∙ ap₂ (λ x y. payloadOf line x y ++ drop (496 * y) payload) at-0 all-n)
+                  ∙ ap₂ (λ x y. payloadOf line x y ++ drop (496 * y) payload) start used-n)
                   ∙ take-at (payloadOf line 0 n) (drop (496 * n) payload) (496 * n) (reads.payload-length line 0 n)
                   ∙ writes.payload-back g octets;
               overhead =

@@ -15,10 +15,10 @@ use Rattle.base.proofs.TabLaws.{some-first, some-least, at-all, sum-none}
 use Rattle.e1.specs.Frame.{frameAt, wordAt, signal}
 use Rattle.e1.specs.Block.{agrees}
 use Rattle.align.specs.Place.{basic, mark, signalAt, pairAt, withPlace, standing, firstStanding}
-use Rattle.read.specs.Reading.{whole, wrongBitsOf, wrong, wrongBit2, wordLoss, bit2Loss, earlier, loss, wordErrors}
-use Rattle.read.specs.Reading.{wordBits, compared, agreesIn, errored}
-use Rattle.read.proofs.LossLaws.{right-bit-2}
-use Rattle.read.proofs.Runs.{never-third}
+use Rattle.measure.specs.Reading.{whole, wrongBitsOf, wrong, wrongBit2, wordLoss, bit2Loss, earlier, loss, wordErrors}
+use Rattle.measure.specs.Reading.{wordBits, compared, agreesIn, errored}
+use Rattle.measure.proofs.LossLaws.{right-bit-2}
+use Rattle.measure.proofs.Runs.{never-third}
 
 -- a line of n multiframes, its first bit that of a frame 0
 pub record Framed (s : List ℕ) (n : ℕ) : Type 0 where

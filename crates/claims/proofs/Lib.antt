@@ -9,6 +9,7 @@ pub mod Demand3
 pub mod Losses
 pub mod Accepts
 pub mod Reasons
+pub mod Streams
 pub mod Regular
 pub mod SignalsBack
 pub mod Signals

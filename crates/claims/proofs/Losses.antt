@@ -4,11 +4,11 @@ use mathlib.Core.Path.{_≡_, sym, ap, _∙_}
 use mathlib.Core.List.{List}
 use mathlib.Core.Logic.{_↔_}
 use native.Mathlib.Omega.{arith}
-use Rattle.read.specs.Reading.{wordLoss, loss, lostAt, causeOf, usedOf}
-use Rattle.read.specs.Loss.{LostByWords, LostByBits2, LostBy, Loss}
+use Rattle.measure.specs.Reading.{wordLoss, loss, lostAt, causeOf, usedOf}
+use Rattle.measure.specs.Loss.{LostByWords, LostByBits2, LostBy, Loss}
 use Rattle.read.specs.Entry.{Read}
 use Rattle.read.specs.declared.Reading.{Reading}
-use Rattle.read.proofs.LossLaws as laws
+use Rattle.measure.proofs.LossLaws as laws
 use Rattle.claims.specs.Demand2.{Accepted}
 use Rattle.claims.specs.Losses.{ByWordsAlone, Losses}
 use Rattle.claims.proofs.Demand2.{reads-so}

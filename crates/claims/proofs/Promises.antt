@@ -7,6 +7,7 @@ use Rattle.claims.proofs.Losses.{losses}
 use Rattle.claims.proofs.Counts.{counts}
 use Rattle.claims.proofs.Accepts.{accepts}
 use Rattle.claims.proofs.Reasons.{reasons}
+use Rattle.claims.proofs.Streams.{streams}
 use Rattle.claims.proofs.Signals.{signals}
 use Rattle.claims.proofs.Interface.{interface}
 use Rattle.claims.proofs.Single.{single}
@@ -22,6 +23,7 @@ promises =
       counts = counts;
       accepts = accepts;
       reasons = reasons;
+      streams = streams;
       signals = signals;
       interface = interface;
       single = single;

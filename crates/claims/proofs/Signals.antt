@@ -2,40 +2,49 @@
 use Prim.Native.Nat.{ℕ, zero, suc, _+_, _-_, _*_, _/_, _%_, _≤_, _<_}
 use mathlib.Core.Path.{_≡_, refl, sym, ap, ap₂, subst, _∙_}
 use mathlib.Core.Bool.{Bool, true, false, _&&_, not, true≢false, and-eq-true-iff}
-use mathlib.Core.List.{List}
+use mathlib.Core.List.{List, _++_}
 use mathlib.Core.Logic.{_↔_}
 use mathlib.Core.Option.{Option, none, some}
 use native.Mathlib.Omega.{arith}
 use borrow.Author.Tests.{eq-eqb, ne-eqb, eqb-true, eqb-false, not-true}
 use lib.Dec.{eqb, lit≤}
-use lib.ListN.{length, getD, take, drop, List·getD-append}
+use lib.ListN.{length, getD, take, drop, length-append, List·getD-append}
+use lib.Seq.{take-at, getD-append-add}
 use Rattle.base.specs.Choice.{valueOr}
-use Rattle.base.specs.Tab.{least}
-use Rattle.base.proofs.TabLaws.{getD-tab, least-some, least-none, none-least}
-use Rattle.e1.specs.Payload.{multiframes}
+use Rattle.base.specs.Tab.{tab, least}
+use Rattle.base.proofs.TabLaws.{getD-tab, tab-split, tab-agree, least-some, least-none, none-least}
+use Rattle.base.proofs.AnswerLaws.{accepted-so}
+use Rattle.line.specs.Bit.{octetAt}
+use Rattle.e1.specs.Frame.{slotAt}
+use Rattle.e1.specs.Payload.{indexOf, multiframes}
+use Rattle.read.specs.Entry as reading
 use Rattle.read.specs.Entry.{startIn, wholeIn, usedIn, Read}
-use Rattle.read.specs.Reading.{whole}
+use Rattle.read.proofs.EntryLaws.{read-accepted}
+use Rattle.measure.specs.Reading.{whole, payloadOf}
+use Rattle.measure.proofs.Laws.{slot-of, payload-length}
 use Rattle.read.specs.declared.Reading.{Reading}
-use Rattle.read.proofs.LossLaws.{used-le}
+use Rattle.measure.proofs.LossLaws.{used-le}
 use Rattle.write.specs.Writing.{written}
 use Rattle.write.specs.Inputs.{Inputs}
 use Rattle.write.specs.declared.Written.{Written}
 use Rattle.write.proofs.Calls.{Fits, wrote-line}
 use Rattle.signals.specs.Signalling.{signalAt, aligns, Walk, begun, walk, startsIn, readIn, firstIn, abcdAt, abcdIn}
 use Rattle.signals.specs.Lost.{Lost}
-use Rattle.signals.specs.Entry.{slot16In, filled, accept, Signalled}
+use Rattle.signals.specs.Entry.{slot16Of, slot16In, filled, accept, Signalled}
 use Rattle.signals.specs.declared.Signalling.{Signalling}
 use Rattle.signals.proofs.Laws.{aligns-later, taken-later, first-none, none-first}
 use Rattle.signals.proofs.Starts.{few-read, start-within}
 use Rattle.signals.proofs.LossLaws.{loses-at, searches-on, searches-until, takes, forgiven, start-begun}
 use Rattle.signals.proofs.EntryLaws.{slot16-length, abcd-length, signals-number, signals-accepted, signals-refused}
+use Rattle.heard.specs.Hearing.{nothing}
+use Rattle.heard.proofs.Rows.{hears-all, told-all, heard-on, told-joined}
 use Rattle.signalled.specs.Slot16.{withSlot16}
 use Rattle.signalled.specs.Entry.{Wrote}
 use Rattle.signalled.specs.Given.{Given}
 use Rattle.signalled.proofs.Laws.{with-length, with-multiframes, with-slot16, with-other, with-octets}
 use Rattle.signalled.proofs.Calls.{accepted-call, wrote-number, wrote-plain}
 use Rattle.claims.specs.Demand2.{Standard, ReadBack}
-use Rattle.claims.specs.Signals.{Taken, TakenFirst, SignalledLine, SignalsBack, Signals}
+use Rattle.claims.specs.Signals.{Taken, TakenFirst, SignalledLine, SignalsBack, slot16Row, HeardAlike, Signals}
 use Rattle.claims.proofs.Accepts.{signals-is}
 use Rattle.claims.proofs.Demand2.{demand-2}
 use Rattle.claims.proofs.SignalsBack.{one-high, line-back}
@@ -135,6 +144,64 @@ module _ (s out : List ℕ) (r : Signalling) (out' : List ℕ) (h : Signalled s 
           omega (arith, few-read t (length t), slot16-length s (startIn s) (usedIn s), used-le s (startIn s) (wholeIn s), g .short)
       go (suc n) e = rw (signals-refused s out r out' n h e .0) (omega arith)
 
+  -- and frame by frame
+  alike : r .number ≡ 0 → HeardAlike t r out'
+  unfolding accept
+  alike z =
+      let d = signals-accepted s out r out' h z in
+      let n = length t in
+      let a = hears-all t in
+      let is = d .0 in
+      let m : r .multiframes ≡ readIn t n = ap (λ (x : Signalling). x .multiframes) is in
+      record {
+        multiframes = m ∙ sym (a .multiframes);
+        first = ap (λ (x : Signalling). x .first) is ∙ sym (a .first);
+        losses = ap (λ (x : Signalling). x .losses) is ∙ sym (a .losses);
+        held = ap (λ (x : Signalling). x .held) is ∙ sym (a .held);
+        x0 = ap (λ (x : Signalling). x .x0) is ∙ sym (ap (λ x. x / 8 % 2) (a .xy));
+        x1 = ap (λ (x : Signalling). x .x1) is ∙ sym (ap (λ x. x / 2 % 2) (a .xy));
+        x2 = ap (λ (x : Signalling). x .x2) is ∙ sym (ap (λ x. x % 2) (a .xy));
+        y = ap (λ (x : Signalling). x .y) is ∙ sym (ap (λ x. x / 4 % 2) (a .xy));
+        abcd = ap₂ (λ m o. take (30 * m) o) m (d .1)
+            ∙ take-at (abcdIn t n) (drop (filled t) out) (30 * readIn t n) (abcd-length t n) ∙ sym (told-all t);
+      }
+
+-- The row of slot 16 in a payload
+
+rows-joined : (p q : List ℕ) (n : ℕ) → length p ≡ 496 * n → slot16Row (p ++ q) ≡ slot16Row p ++ slot16Row q
+rows-joined p q n e =
+    let m = multiframes q in
+    let a : 16 * multiframes (p ++ q) ≡ 16 * n + 16 * m = omega (arith, length-append p q) in
+    let b : 16 * multiframes p ≡ 16 * n = omega arith in
+    let f : List ℕ → ℕ → ℕ = λ p f. getD p (indexOf f 16) 0 in
+    ap (λ k. tab k (f (p ++ q))) a ∙ tab-split (16 * n) (16 * m) (f (p ++ q))
+    ∙ ap₂ (λ x y. x ++ y)
+    (tab-agree (16 * n) (f (p ++ q)) (f p) (λ i l. List·getD-append p q 0 (indexOf i 16) (omega arith)) ∙ ap (λ k. tab k (f p)) (sym b))
+    (tab-agree (16 * m) (λ i. f (p ++ q) (16 * n + i)) (f q)
+    (λ i l.
+    let k : indexOf (16 * n + i) 16 ≡ length p + indexOf i 16 = omega arith in
+    ap (λ j. getD (p ++ q) j 0) k ∙ getD-append-add p q (indexOf i 16) 0))
+
+row-of : (s : List ℕ) (q g : ℕ) → slot16Row (payloadOf s q g) ≡ slot16Of s q g
+unfolding slot16Of
+row-of s q g =
+    let e : 16 * multiframes (payloadOf s q g) ≡ 16 * g = omega (arith, payload-length s q g) in
+    ap (λ k. tab k (λ f. getD (payloadOf s q g) (indexOf f 16) 0)) e
+    ∙ tab-agree (16 * g) (λ f. getD (payloadOf s q g) (indexOf f 16) 0) (λ f. octetAt s (slotAt q f 16))
+    (λ f l. slot-of s q (16 * g) f 16 l (lit≤ tt) (lit≤ tt))
+
+in-payload : (s payload slot0 : List ℕ) (r : Reading) (payload' slot0' : List ℕ)
+    → Read s payload slot0 r payload' slot0' → r .number ≡ 0 → slot16Row (take (496 * r .used) payload') ≡ slot16In s
+unfolding reading.accept
+in-payload s payload slot0 r payload' slot0' h z =
+    let p = payloadOf s (startIn s) (usedIn s) in
+    let rest = drop (496 * usedIn s) payload in
+    let u : r .used ≡ usedIn s = ap (λ (x : Reading). x .used) (read-accepted s payload slot0 r payload' slot0' h z) in
+    ap slot16Row
+    (ap₂ (λ g x. take (496 * g) x) u (h .its-payload ∙ accepted-so (r .number) (p ++ rest) payload z)
+    ∙ take-at p rest (496 * usedIn s) (payload-length s (startIn s) (usedIn s)))
+    ∙ row-of s (startIn s) (usedIn s)
+
 -- What is written
 
 module _ (p o : List ℕ) (c : ℕ) (xy v out : List ℕ) (w : Written) (out' : List ℕ) (h : Wrote p o c xy v out w out') (z : w .number ≡ 0) where
@@ -199,6 +266,12 @@ signals =
       again = again;
       whole = start-within;
       not-from-loss = not-from-loss;
+      heard = hears-all;
+      told = told-all;
+      pieces = λ t u. (heard-on nothing t u, told-joined nothing t u);
+      rows = rows-joined;
+      in-payload = in-payload;
+      alike = alike;
       writes = λ p o c xy v out r out' octets h z. writes-so p o c xy v out r out' h z octets;
       reads-back = λ p o c xy v out w out' octets h z. plain-back p o c xy v out w out' h z octets;
       signals-back = λ p o c xy v out w out' octets h z. signals-back p o c xy v out w out' h z octets;

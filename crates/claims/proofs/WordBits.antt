@@ -10,7 +10,7 @@ use Rattle.base.specs.Tab.{count}
 use Rattle.base.proofs.TabLaws.{sum-ext, sum-runs, sum-within, sum-raised}
 use Rattle.e1.specs.Frame.{frameAt, wrongBit, wrongBits}
 use Rattle.e1.proofs.WordLaws.{wrong-most}
-use Rattle.read.specs.Reading.{wrongBitsOf, wrong, wordErrors, wordBits}
+use Rattle.measure.specs.Reading.{wrongBitsOf, wrong, wordErrors, wordBits}
 use Rattle.claims.specs.Counts.{wordBitAt, OneHit}
 
 -- bit j of the word of the even frame 2i is wrong

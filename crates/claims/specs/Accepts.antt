@@ -1,14 +1,18 @@
 -- Which inputs each entry accepts, both ways (KIT §8).
 use Prim.Native.Nat.{ℕ, _+_, _*_, _≤_, _<_}
 use mathlib.Core.Path.{_≡_}
-use mathlib.Core.Bool.{true}
+use mathlib.Core.Bool.{true, false}
 use mathlib.Core.List.{List}
 use mathlib.Core.Logic.{_↔_, _⊎_}
 use lib.ListN.{length, getD}
+use Rattle.align.specs.Place.{placeOf}
 use Rattle.align.specs.Stands.{Stands}
 use Rattle.align.specs.Why.{whyRefusal}
+use Rattle.align.specs.declared.Found.the-variants.{At}
 use Rattle.read.specs.Entry.{GoodLength, usedIn}
 use Rattle.read.specs.Entry as reads
+use Rattle.stream.specs.Entry.{octetsCame, grownOf, feedRefusal, endRefusal}
+use Rattle.stream.specs.declared.Stream.{Stream}
 use Rattle.write.specs.Entry.{overheadLimit}
 use Rattle.write.specs.Entry as writes
 use Rattle.e1.specs.Payload.{multiframes}
@@ -27,6 +31,36 @@ pub record ToRead (s : List ℕ) (a b : ℕ) : Type 0 where
   pub stands : Stands s p k
   pub payload : 496 * usedIn s ≤ a
   pub slot0 : 16 * usedIn s ≤ b
+
+-- a stream that has not ended and is believed: its window has 2,048 octets at most, and no number is over 134,217,728
+pub record Going (st : Stream) : Type 0 where
+  pub not-ended : st .ended ≡ false
+  pub fill : st .fill ≤ 2048
+  pub before : st .line .before ≤ 134217728
+  pub place : placeOf (st .line .found) ≤ 134217728
+  pub k : (p k : ℕ) → st .line .found ≡ At p k → k ≤ 134217728
+  pub used : st .line .used ≤ 134217728
+  pub lost : st .line .lost ≤ 134217728
+  pub words : st .line .words ≤ 134217728
+  pub errored : st .line .errored ≤ 134217728
+  pub farend : st .line .farend ≤ 134217728
+  pub wordbits : st .line .wordbits ≤ 134217728
+
+-- a chunk t to a stream with its window, with a and b octets of room in the two outputs
+pub record ToFeed (st : Stream) (window t : List ℕ) (a b : ℕ) : Type 0 where
+  pub going : Going st
+  pub sized : length window ≡ 2048
+  pub limit : octetsCame st + length t ≤ 16777216
+  pub payload : 496 * grownOf st window t .multiframes ≤ a
+  pub slot0 : 16 * grownOf st window t .multiframes ≤ b
+
+-- a stream that is to end
+pub record ToEnd (st : Stream) : Type 0 where
+  pub going : Going st
+  pub long : 2048 ≤ octetsCame st
+  pub p : ℕ
+  pub k : ℕ
+  pub stands : st .line .found ≡ At p k
 
 -- an image s, with a octets of room in the output
 pub record ToHear (s : List ℕ) (a : ℕ) : Type 0 where
@@ -81,6 +115,8 @@ pub record ToMap (payload out : List ℕ) : Type 0 where
 -- the number is 0 exactly for these; a boundary is never refused
 pub record Accepts : Type 0 where
   pub read : (s : List ℕ) (a b : ℕ) → reads.refusal s a b ≡ 0 ↔ ToRead s a b
+  pub feed : (st : Stream) (window t : List ℕ) (a b : ℕ) → feedRefusal st window t a b ≡ 0 ↔ ToFeed st window t a b
+  pub end : (st : Stream) → endRefusal st ≡ 0 ↔ ToEnd st
   pub signals : (s : List ℕ) (a : ℕ) → signals.refusal s a ≡ 0 ↔ ToHear s a
   pub why : (s : List ℕ) (p : ℕ) → whyRefusal s p ≡ 0 ↔ ToAsk s p
   pub write : (p o : List ℕ) (c m : ℕ) → writes.refusal p o c m ≡ 0 ↔ ToWrite p o c m

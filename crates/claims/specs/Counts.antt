@@ -9,7 +9,7 @@ use lib.ListN.{getD}
 use Rattle.line.specs.Bit.{bitAt, field}
 use Rattle.e1.specs.Frame.{frameAt, alignment}
 use Rattle.e1.specs.Block.{blockCheck, carried}
-use Rattle.read.specs.Reading.{wrong}
+use Rattle.measure.specs.Reading.{wrong}
 use Rattle.read.specs.Entry.{Read}
 use Rattle.read.specs.declared.Reading.{Reading}
 

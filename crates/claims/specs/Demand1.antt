@@ -12,6 +12,9 @@ use Rattle.align.specs.Why.{why, whyValues, whyNumber}
 use Rattle.read.specs.Entry.{Read}
 use Rattle.read.specs.Entry as reads
 use Rattle.read.specs.declared.Reading.{Reading}
+use Rattle.stream.specs.Entry.{feedRefuse, Feeds, ending}
+use Rattle.stream.specs.declared.Stream.{Stream}
+use Rattle.stream.specs.declared.Fed.{Fed}
 use Rattle.write.specs.Entry.{Wrote}
 use Rattle.write.specs.Entry as writes
 use Rattle.write.specs.declared.Written.{Written}
@@ -29,6 +32,10 @@ pub record Demand1 : Type 0 where
   -- it answers, or refuses by a number from its list of the table; the calls on a state have theirs in `numbersOf`
   pub read-number : (s payload slot0 : List ℕ) (r : Reading) (payload' slot0' : List ℕ)
       → Read s payload slot0 r payload' slot0' → among (r .number) (0 ∷ 1 ∷ 2 ∷ 3 ∷ 15 ∷ 4 ∷ []) ≡ true
+  pub feed-number : (st : Stream) (window t payload slot0 : List ℕ) (r : Fed) (window' payload' slot0' : List ℕ)
+      → Feeds st window t payload slot0 r window' payload' slot0'
+      → among (r .number) (0 ∷ 21 ∷ 17 ∷ 4 ∷ []) ≡ true
+  pub end-number : (st : Stream) → among (ending st .reading .number) (0 ∷ 21 ∷ 1 ∷ 3 ∷ 15 ∷ []) ≡ true
   pub signals-number : (s out : List ℕ) (r : Signalling) (out' : List ℕ)
       → Signalled s out r out' → among (r .number) (0 ∷ 1 ∷ 2 ∷ 3 ∷ 15 ∷ 4 ∷ []) ≡ true
   pub why-number : (s : List ℕ) (p : ℕ) → among (whyNumber (why s p)) (0 ∷ 1 ∷ 2 ∷ 14 ∷ []) ≡ true
@@ -37,13 +44,25 @@ pub record Demand1 : Type 0 where
   pub write-signalled-number : (p o : List ℕ) (c : ℕ) (xy v out : List ℕ) (r : Written) (out' : List ℕ)
       → signalled.Wrote p o c xy v out r out' → among (r .number) (0 ∷ 5 ∷ 6 ∷ 7 ∷ 16 ∷ 4 ∷ []) ≡ true
   pub call-number : (s : State) (c : Call) → among (answer s c .number) (0 ∷ numbersOf c) ≡ true
-  -- A refusal changes no octet and no state, and answers zeros beside its number. There is one exception: number 15 of
-  -- a reading has a place beside it, and Demand 2 says which.
+  -- A refusal changes no octet, no state and no stream, and answers zeros beside its number. There is one exception:
+  -- number 15 of a reading, or of a stream's end, has a place beside it, and Demand 2 and Streams say which.
   pub read-refused : (s payload slot0 : List ℕ) (r : Reading) (payload' slot0' : List ℕ) (n : ℕ)
       → Read s payload slot0 r payload' slot0' → r .number ≡ suc n
       → (r ≡ reads.refuse (suc n) (r .place)) × (payload' ≡ payload) × (slot0' ≡ slot0)
   pub read-no-place : (s payload slot0 : List ℕ) (r : Reading) (payload' slot0' : List ℕ) (n : ℕ)
       → Read s payload slot0 r payload' slot0' → r .number ≡ suc n → suc n ≢ 15 → r .place ≡ 0
+  pub feed-refused : (st : Stream) (window t payload slot0 : List ℕ) (r : Fed) (window' payload' slot0' : List ℕ)
+      → Feeds st window t payload slot0 r window' payload' slot0' → (n : ℕ) → r .number ≡ suc n
+      → (r ≡ feedRefuse st (suc n)) × (window' ≡ window) × (payload' ≡ payload) × (slot0' ≡ slot0)
+  pub end-refused : (st : Stream) (n : ℕ) → ending st .reading .number ≡ suc n
+      → ending st ≡ record { stream = st; reading = reads.refuse (suc n) (ending st .reading .place) }
+  pub end-no-place : (st : Stream) (n : ℕ) → ending st .reading .number ≡ suc n → suc n ≢ 15
+      → ending st .reading .place ≡ 0
+  -- after an end that is accepted every call on the stream is refused with 21, and so changes nothing
+  pub feed-after-end : (st : Stream) → ending st .reading .number ≡ 0
+      → (window t payload slot0 : List ℕ) (r : Fed) (window' payload' slot0' : List ℕ)
+      → Feeds (ending st .stream) window t payload slot0 r window' payload' slot0' → r .number ≡ 21
+  pub end-after-end : (st : Stream) → ending st .reading .number ≡ 0 → ending (ending st .stream) .reading .number ≡ 21
   pub signals-refused : (s out : List ℕ) (r : Signalling) (out' : List ℕ) (n : ℕ)
       → Signalled s out r out' → r .number ≡ suc n → (r ≡ signals.refuse (suc n)) × (out' ≡ out)
   pub why-refused : (s : List ℕ) (p n : ℕ) → whyNumber (why s p) ≡ suc n
@@ -59,6 +78,11 @@ pub record Demand1 : Type 0 where
       → Read s payload slot0 r payload' slot0' → r .number ≡ 0
       → (drop (496 * r .used) payload' ≡ drop (496 * r .used) payload)
       × (drop (16 * r .used) slot0' ≡ drop (16 * r .used) slot0)
+  pub feed-kept : (st : Stream) (window t payload slot0 : List ℕ) (r : Fed) (window' payload' slot0' : List ℕ)
+      → Feeds st window t payload slot0 r window' payload' slot0' → r .number ≡ 0
+      → (drop (r .stream .fill) window' ≡ drop (r .stream .fill) window)
+      × (drop (496 * r .multiframes) payload' ≡ drop (496 * r .multiframes) payload)
+      × (drop (16 * r .multiframes) slot0' ≡ drop (16 * r .multiframes) slot0)
   pub write-kept : (p o : List ℕ) (c : ℕ) (out : List ℕ) (r : Written) (out' : List ℕ)
       → Wrote p o c out r out' → r .number ≡ 0 → drop (512 * multiframes p) out' ≡ drop (512 * multiframes p) out
   pub signals-kept : (s out : List ℕ) (r : Signalling) (out' : List ℕ)

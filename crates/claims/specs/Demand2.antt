@@ -15,7 +15,7 @@ use Rattle.e1.specs.Payload.{indexOf, multiframes}
 use Rattle.align.specs.Place.{foundIn, startOf}
 use Rattle.align.specs.Stands.{Basic, BasicFirst, Pair, Stands, StandsFirst}
 use Rattle.align.specs.declared.Found.the-variants.{At, BasicAt, Nothing}
-use Rattle.read.specs.Reading.{whole, loss, lostAt, causeOf, usedOf, wordErrors, wordBits, compared, errored, farEnd}
+use Rattle.measure.specs.Reading.{whole, loss, lostAt, causeOf, usedOf, wordErrors, wordBits, compared, errored, farEnd}
 use Rattle.read.specs.Entry.{Read, GoodLength}
 use Rattle.read.specs.declared.Reading.{Reading}
 use Rattle.write.specs.Entry.{Wrote}

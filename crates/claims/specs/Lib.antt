@@ -5,6 +5,7 @@ pub mod Losses
 pub mod Counts
 pub mod Accepts
 pub mod Reasons
+pub mod Streams
 pub mod Signals
 pub mod Interface
 pub mod Single

@@ -5,8 +5,8 @@ use mathlib.Core.List.{List}
 use mathlib.Core.Logic.{_↔_}
 use Rattle.line.specs.Bit.{bitAt}
 use Rattle.e1.specs.Frame.{frameAt}
-use Rattle.read.specs.Reading.{wordLoss, lostAt, causeOf, usedOf}
-use Rattle.read.specs.Loss.{LostByWords, LostByBits2, LostBy, Loss}
+use Rattle.measure.specs.Reading.{wordLoss, lostAt, causeOf, usedOf}
+use Rattle.measure.specs.Loss.{LostByWords, LostByBits2, LostBy, Loss}
 use Rattle.read.specs.Entry.{Read}
 use Rattle.read.specs.declared.Reading.{Reading}
 

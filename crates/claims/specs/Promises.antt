@@ -6,6 +6,7 @@ use Rattle.claims.specs.Losses.{Losses}
 use Rattle.claims.specs.Counts.{Counts}
 use Rattle.claims.specs.Accepts.{Accepts}
 use Rattle.claims.specs.Reasons.{Reasons}
+use Rattle.claims.specs.Streams.{Streams}
 use Rattle.claims.specs.Signals.{Signals}
 use Rattle.claims.specs.Interface.{Interface}
 use Rattle.claims.specs.Single.{Single}
@@ -19,6 +20,7 @@ pub record Promises : Type 0 where
   pub counts : Counts
   pub accepts : Accepts
   pub reasons : Reasons
+  pub streams : Streams
   pub signals : Signals
   pub interface : Interface
   pub single : Single

@@ -1,20 +1,22 @@
--- Signalling, read and written (KIT §5, §6 and §11).
+-- Signalling, read, heard and written (KIT §5, §6 and §11).
 use Prim.Native.Nat.{ℕ, _+_, _-_, _*_, _/_, _%_, _≤_, _<_}
 use mathlib.Core.Path.{_≡_}
 use mathlib.Core.Bool.{true}
-use mathlib.Core.List.{List}
+use mathlib.Core.List.{List, _++_}
 use mathlib.Core.Logic.{_↔_, _≢_}
 use lib.ListN.{length, getD, take, drop}
+use Rattle.base.specs.Tab.{tab}
 use Rattle.line.specs.Bit.{octetAt}
 use Rattle.e1.specs.Frame.{slotAt}
 use Rattle.e1.specs.Payload.{indexOf, multiframes}
 use Rattle.read.specs.Entry.{Read}
 use Rattle.read.specs.declared.Reading.{Reading}
 use Rattle.write.specs.declared.Written.{Written}
-use Rattle.signals.specs.Signalling.{signalAt, begun, walk, loses, startsIn, readIn, firstIn, abcdAt}
+use Rattle.signals.specs.Signalling.{signalAt, begun, walk, loses, startsIn, readIn, firstIn, abcdAt, abcdIn}
 use Rattle.signals.specs.Lost.{Lost}
 use Rattle.signals.specs.Entry.{slot16In, Signalled}
 use Rattle.signals.specs.declared.Signalling.{Signalling}
+use Rattle.heard.specs.Hearing.{nothing, afterRow, hearingOf, isHeld, xyOf, toldAlong, Hears}
 use Rattle.signalled.specs.Slot16.{slot16, withSlot16}
 use Rattle.signalled.specs.Entry.{Wrote}
 use Rattle.claims.specs.Demand2.{Standard, ReadBack}
@@ -53,6 +55,22 @@ pub record SignalsBack (xy v : List ℕ) (n : ℕ) (r : Signalling) (out' : List
   pub bits : (m c : ℕ) → 1 ≤ m → m < n → 1 ≤ c → c ≤ 30 → getD out' (30 * (m - 1) + (c - 1)) 0 ≡ getD v (30 * m + (c - 1)) 0
   pub abcd : take (30 * (n - 1)) out' ≡ drop 30 v
 
+-- slot 16 of the frames of a payload, in a row
+abbrev pub slot16Row : List ℕ → List ℕ
+slot16Row payload = tab (16 * multiframes payload) (λ f. getD payload (indexOf f 16) 0)
+
+-- what is answered of an image at once, and left in the output, is what is heard of its row t frame by frame
+pub record HeardAlike (t : List ℕ) (r : Signalling) (out' : List ℕ) : Type 0 where
+  pub multiframes : r .multiframes ≡ hearingOf t .multiframes
+  pub first : r .first ≡ hearingOf t .first
+  pub losses : r .losses ≡ hearingOf t .losses
+  pub held : r .held ≡ isHeld (hearingOf t)
+  pub x0 : r .x0 ≡ xyOf (hearingOf t) / 8 % 2
+  pub x1 : r .x1 ≡ xyOf (hearingOf t) / 2 % 2
+  pub x2 : r .x2 ≡ xyOf (hearingOf t) % 2
+  pub y : r .y ≡ xyOf (hearingOf t) / 4 % 2
+  pub abcd : take (30 * r .multiframes) out' ≡ toldAlong nothing t
+
 pub record Signals : Type 0 where
   -- Reading. Each octet of the output is ABCD of a channel of the signalling multiframe that it belongs to
   pub octet : (s out : List ℕ) (r : Signalling) (out' : List ℕ) → Signalled s out r out' → r .number ≡ 0
@@ -74,6 +92,22 @@ pub record Signals : Type 0 where
   -- each signalling multiframe that is read is whole, and none is read from a loss
   pub whole : (t : List ℕ) (n m : ℕ) → m < readIn t n → getD (startsIn t n) m 0 + 16 ≤ n
   pub not-from-loss : (t : List ℕ) (n m : ℕ) → m < readIn t n → Lost t (getD (startsIn t n) m 0) → ⊥
+  -- Hearing, frame by frame, a row of any length. Behind each frame all that is answered is known of the row so far,
+  -- and where a signalling multiframe has just become whole, the frame with which it began and its channels
+  pub heard : (t : List ℕ) → Hears t (hearingOf t)
+  -- the channels told so, one behind the other, are those of all that are read
+  pub told : (t : List ℕ) → toldAlong nothing t ≡ abcdIn t (length t)
+  -- a row that comes in pieces is heard as one
+  pub pieces : (t u : List ℕ)
+      → (hearingOf (t ++ u) ≡ afterRow (hearingOf t) u)
+      × (toldAlong nothing (t ++ u) ≡ toldAlong nothing t ++ toldAlong (hearingOf t) u)
+  -- whole multiframes of payload that leave one behind the other make one row
+  pub rows : (p q : List ℕ) (n : ℕ) → length p ≡ 496 * n → slot16Row (p ++ q) ≡ slot16Row p ++ slot16Row q
+  -- that of an image is in the payload that is read, and heard it gives what is answered at once
+  pub in-payload : (s payload slot0 : List ℕ) (r : Reading) (payload' slot0' : List ℕ)
+      → Read s payload slot0 r payload' slot0' → r .number ≡ 0 → slot16Row (take (496 * r .used) payload') ≡ slot16In s
+  pub alike : (s out : List ℕ) (r : Signalling) (out' : List ℕ) → Signalled s out r out' → r .number ≡ 0
+      → HeardAlike (slot16In s) r out'
   -- Writing. It makes the standard's multiframes of the payload with slot 16 replaced
   pub writes : (p o : List ℕ) (c : ℕ) (xy v out : List ℕ) (r : Written) (out' : List ℕ) → ((i : ℕ) → getD p i 0 < 256)
       → Wrote p o c xy v out r out' → r .number ≡ 0

@@ -1,6 +1,6 @@
 -- Nothing is left open: any two results that an entry's contract admits are equal, with what they leave in every lent
--- octet. The entries are those of `align`, `read`, `signals`, `write`, `signalled` and `exchange`, and the ten functions
--- of the C interface over them.
+-- octet. The entries are those of `align`, `read`, `stream`, `signals`, `write`, `signalled` and `exchange`, and the
+-- thirteen functions of the C interface over them.
 use Prim.Native.Nat.{ℕ}
 use mathlib.Core.Path.{_≡_}
 use mathlib.Core.List.{List}
@@ -8,6 +8,10 @@ use Rattle.align.specs.Why.{why}
 use Rattle.align.specs.declared.Why.{Why}
 use Rattle.read.specs.Entry.{Read}
 use Rattle.read.specs.declared.Reading.{Reading}
+use Rattle.stream.specs.Entry.{starting, Feeds, ending}
+use Rattle.stream.specs.declared.Stream.{Stream}
+use Rattle.stream.specs.declared.Fed.{Fed}
+use Rattle.stream.specs.declared.Ended.{Ended}
 use Rattle.write.specs.Entry.{Wrote}
 use Rattle.write.specs.declared.Written.{Written}
 use Rattle.signals.specs.Entry.{Signalled}
@@ -17,12 +21,17 @@ use Rattle.exchange.specs.Mapping.{Mapped}
 use Rattle.exchange.specs.Machine.{startState, hosted, keyed, crossed}
 use Rattle.exchange.specs.declared.State.{State}
 use Rattle.exchange.specs.declared.Answered.{Answered}
-use Rattle.jikhvanto.specs.Calls.{JkRead, JkSignals, JkWhy, JkWrite, JkWriteSignalled}
+use Rattle.jikhvanto.specs.Calls.{JkRead, JkStreamStart, JkFeed, JkEnd, JkSignals, JkWhy, JkWrite, JkWriteSignalled}
 use Rattle.jikhvanto.specs.Calls.{JkStart, JkHost, JkKey, JkBoundary, JkMap}
 
 pub record Single : Type 0 where
   pub read : (s payload slot0 : List ℕ) (r r' : Reading) (p p' o o' : List ℕ)
       → Read s payload slot0 r p o → Read s payload slot0 r' p' o' → (r ≡ r') × (p ≡ p') × (o ≡ o')
+  pub stream-start : (st st' : Stream) → st ≡ starting → st' ≡ starting → st ≡ st'
+  pub feed : (st : Stream) (window t payload slot0 : List ℕ) (r r' : Fed) (w w' p p' o o' : List ℕ)
+      → Feeds st window t payload slot0 r w p o → Feeds st window t payload slot0 r' w' p' o'
+      → (r ≡ r') × (w ≡ w') × (p ≡ p') × (o ≡ o')
+  pub end : (st : Stream) (r r' : Ended) → r ≡ ending st → r' ≡ ending st → r ≡ r'
   pub signals : (s out : List ℕ) (r r' : Signalling) (x x' : List ℕ)
       → Signalled s out r x → Signalled s out r' x' → (r ≡ r') × (x ≡ x')
   pub why : (s : List ℕ) (p : ℕ) (r r' : Why) → r ≡ why s p → r' ≡ why s p → r ≡ r'
@@ -39,6 +48,12 @@ pub record Single : Type 0 where
   pub jk-read : (image payload slot0 : List ℕ) (r r' : ℕ) (p p' o o' a a' : List ℕ)
       → JkRead image payload slot0 r p o a → JkRead image payload slot0 r' p' o' a'
       → (r ≡ r') × (p ≡ p') × (o ≡ o') × (a ≡ a')
+  pub jk-stream-start : (s s' : List ℕ) → JkStreamStart s → JkStreamStart s' → s ≡ s'
+  pub jk-feed : (stream chunk payload slot0 : List ℕ) (r r' : ℕ) (s s' p p' o o' a a' : List ℕ)
+      → JkFeed stream chunk payload slot0 r s p o a → JkFeed stream chunk payload slot0 r' s' p' o' a'
+      → (r ≡ r') × (s ≡ s') × (p ≡ p') × (o ≡ o') × (a ≡ a')
+  pub jk-end : (stream : List ℕ) (r r' : ℕ) (s s' a a' : List ℕ) → JkEnd stream r s a → JkEnd stream r' s' a'
+      → (r ≡ r') × (s ≡ s') × (a ≡ a')
   pub jk-signals : (image abcd : List ℕ) (r r' : ℕ) (x x' a a' : List ℕ)
       → JkSignals image abcd r x a → JkSignals image abcd r' x' a' → (r ≡ r') × (x ≡ x') × (a ≡ a')
   pub jk-why : (image : List ℕ) (place r r' : ℕ) (a a' : List ℕ) → JkWhy image place r a → JkWhy image place r' a'
