@@ -1,6 +1,10 @@
 // Reads the signalling of a line, from the file that the argument names or from standard input, and prints which channels
 // change. With `--table`, before the file, it prints all of them.
 use libc::STDOUT_FILENO;
+use printed::Change;
+use printed::print_bits;
+use printed::print_change;
+use printed::print_values;
 use program::print;
 use program::print_line;
 use program::print_number;
@@ -14,12 +18,6 @@ const HEADS: [u8; 204] = *b"\
     channel     1     2     3     4     5     6     7     8     9    10\n\
     channel    11    12    13    14    15    16    17    18    19    20\n\
     channel    21    22    23    24    25    26    27    28    29    30\n";
-
-// ABCD of a channel in a signalling multiframe, and in the one read before it
-struct Change {
-    was: u8,
-    is: u8,
-}
 
 // Channel c, counted from 0, in the m-th that is read. The first has none before it, and changes nothing.
 fn heard(abcd: &[u8; 450], m: usize, c: usize) -> Change
@@ -36,38 +34,12 @@ fn heard(abcd: &[u8; 450], m: usize, c: usize) -> Change
     }
 }
 
-fn print_bits(before: &[u8], abcd: u8) -> bool {
-    print(before)
-        & print(
-            &[
-                b'0' + abcd / 8 % 2,
-                b'0' + abcd / 4 % 2,
-                b'0' + abcd / 2 % 2,
-                b'0' + abcd % 2,
-            ],
-        )
-}
-
-// a line for a channel that changes, in the signalling multiframe that begins with frame f
-fn print_change(f: usize, c: usize, h: Change) -> bool
-    requires { ⌜ c < 30 ⌝ }
-{
-    if h.was == h.is {
-        return true;
-    }
-    print_number(b"2 ms ", (f / 16) as u64)
-        & print_number(b"  channel ", (c + 1) as u64)
-        & print_bits(b"  ", h.was)
-        & print_bits(b" -> ", h.is)
-        & print(b"\n")
-}
-
 fn print_changes(abcd: &[u8; 450], m: usize, f: usize) -> bool
     requires { ⌜ m < 15 ⌝ }
 {
     let mut ok = true;
     for c in 0..30 {
-        ok = ok & print_change(f, c, heard(abcd, m, c));
+        ok = ok & print_change(f, c + 1, heard(abcd, m, c));
     }
     ok
 }
@@ -114,31 +86,6 @@ fn print_abcd(abcd: &[u8; 450], s: Signalling, is_table: bool) -> bool {
         }
     }
     ok
-}
-
-fn print_first(frame: usize) -> bool {
-    if frame == 0 {
-        return print(b"first no\n");
-    }
-    print_line(b"first ", frame)
-}
-
-fn print_held(is_held: bool) -> bool {
-    if is_held {
-        return print(b"held yes\n");
-    }
-    print(b"held no\n")
-}
-
-fn print_values(s: Signalling) -> bool {
-    print_line(b"multiframes ", s.multiframes)
-        & print_first(s.first)
-        & print_line(b"losses ", s.losses)
-        & print_held(s.held)
-        & print_line(b"x0 ", s.x0 as usize)
-        & print_line(b"x1 ", s.x1 as usize)
-        & print_line(b"x2 ", s.x2 as usize)
-        & print_line(b"y ", s.y as usize)
 }
 
 // what the telephones say, or the refusal: its number is printed, and said in words on standard error

@@ -84,11 +84,16 @@ pub fn place(program: &[u8], at: usize) -> Spelt {
     Spelt::Number(row[0])
 }
 
+// argument `at` is this option
+pub fn is_option(at: usize, option: &[u8]) -> bool {
+    let mut word = io::buffer();
+    let n = os::arg(at, &mut word);
+    check::same(&word[..n], option)
+}
+
 // the first argument is this option
 pub fn is_first(option: &[u8]) -> bool {
-    let mut word = io::buffer();
-    let n = os::arg(1, &mut word);
-    check::same(&word[..n], option)
+    is_option(1, option)
 }
 
 // the end of a program's output, which was written or not
@@ -143,17 +148,27 @@ pub struct Taken {
     pub ok: bool,
 }
 
+// one read of an input, which has ended where it gives no octet
+pub fn read_once(fd: i32, room: &mut [u8]) -> Taken
+    ensures { λ r. ⌜ Counts (r .n) (now (room .exit)) ⌝ }
+{
+    let got = libc::read(fd, room);
+    Taken {
+        n: io::count(got, room),
+        ok: got >= 0,
+    }
+}
+
 fn take(fd: i32, room: &mut [u8]) -> Taken
     ensures { λ r. ⌜ Counts (r .n) (now (room .exit)) ⌝ }
 {
     let mut n = 0;
     while n < room.len() {
-        let got = libc::read(fd, &mut room[n..]);
-        let more = io::count(got, &room[n..]);
-        if more == 0 {
-            return Taken { n: n, ok: got == 0 };
+        let more = read_once(fd, &mut room[n..]);
+        if more.n == 0 {
+            return Taken { n: n, ok: more.ok };
         }
-        n += more;
+        n += more.n;
     }
     Taken { n: n, ok: true }
 }

@@ -6,7 +6,7 @@ pub fn print_refusal(fd: i32, number: u64) -> bool {
         fd,
         b"accepted\n\
         the line is under 2,048 octets; four multiframes are the least that can be read\n\
-        the line is over 8,192 octets; sixteen multiframes are the most that is read\n\
+        the line is over 8,192 octets, the most that is read at once; watch takes it in chunks\n\
         no frames are found: no place with 16,384 bits to the line's end has basic alignment\n\
         an output has no room for what is to be written\n\
         the payload is not 1 to 16 multiframes of 496 octets (504 with their overhead, 535 with signalling too)\n\
@@ -20,7 +20,12 @@ pub fn print_refusal(fd: i32, number: u64) -> bool {
         the key's position is 0 (off) or 1 (on)\n\
         fewer than 16,384 bits are left from that place to the line's end\n\
         basic alignment is found, but no pair of multiframe signals with it; is the sender's CRC-4 on?\n\
-        XY is not an octet from 0 to 15 a multiframe, or ABCD is not thirty from 1 to 15",
+        XY is not an octet from 0 to 15 a multiframe, or ABCD is not thirty from 1 to 15\n\
+        the line goes on past 16,777,216 octets, the most that is taken in chunks\n\
+        no call gives this number\n\
+        no call gives this number\n\
+        no call gives this number\n\
+        the stream has ended, or was not made by calls; another one can be started",
         number,
     )
 }

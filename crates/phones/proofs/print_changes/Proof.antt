@@ -14,4 +14,4 @@ pub print-changes-spec : {M : Type 1} → statement M
 print-changes-spec =
     tie.close
     (tie.spec Inv-loop μ-loop (search needs) (search needs) (search needs) (search needs) (search needs) (search needs)
-    (search needs))
+    (search needs) (search needs))

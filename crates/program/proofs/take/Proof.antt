@@ -17,9 +17,8 @@ pub take-spec : {M : Type 1} → statement M
 take-spec =
     tie.close
     (tie.spec Inv-loop μ-loop
-    (search needs) (search needs) (search needs) (search needs) (search needs) (search needs) (search needs)
+    (search needs) (search needs) (search needs) (search needs) (search needs)
     (search needs)
-    (search needs) (search needs)
     (λ c. simp length-take (omega arith))
     (search needs) (search needs) (search needs) (search needs)
     (λ c. simp length-take (omega arith)))
