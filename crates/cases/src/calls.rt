@@ -1,4 +1,6 @@
-// The calls that steps make, each with the line that it prints.
+// The calls that steps make, but those on a stream, each with the line that it prints.
+use crate::chunks::END;
+use crate::chunks::STREAM;
 use crate::print::digest;
 use align::Why;
 use exchange::State;
@@ -38,14 +40,14 @@ const SIGNALS: usize = 25;
 const WRITE_SIGNALLED: usize = 26;
 
 // what every octet of an output holds before a call
-const BEFORE: u8 = 170;
+pub const BEFORE: u8 = 170;
 
 // the names of what a read answers
 const NAMES: [u8; 95] =
     *b" place \n start \n whole \n used \n lost \n words \n compared \n errored \n farend \n wordbits \n cause \n";
 
-// what a read answers, and the digests of its outputs
-fn show_read(label: &[u8], r: read::Reading, payload: &[u8], slot0: &[u8]) {
+// what a read answers behind its number
+pub fn show_values(r: read::Reading) {
     let counts = [
         r.place,
         r.start,
@@ -59,12 +61,17 @@ fn show_read(label: &[u8], r: read::Reading, payload: &[u8], slot0: &[u8]) {
         r.wordbits,
         r.cause as usize,
     ];
-    print(label);
-    print_number(b": ", r.number);
     for i in 0..11 {
         write_line(STDOUT_FILENO, &NAMES, i as u64);
         print_number(b"", counts[i] as u64);
     }
+}
+
+// what a read answers, and the digests of its outputs
+fn show_read(label: &[u8], r: read::Reading, payload: &[u8], slot0: &[u8]) {
+    print(label);
+    print_number(b": ", r.number);
+    show_values(r);
     digest(b" payload ", payload);
     digest(b" slot0 ", slot0);
     print(b"\n");
@@ -234,8 +241,8 @@ fn row_of_two(label: &[u8], payload: [u8; 8432], overhead: [u8; 136]) {
     write_two(label, &payload[0..992], &overhead[0..16], &mut out);
 }
 
-// a call of the map and the key, as its step says it, and its number
-fn head(label: &[u8], step: &[u8], number: u64) {
+// a call of the map and the key or on a stream, as its step says it, and its number
+pub fn head(label: &[u8], step: &[u8], number: u64) {
     print(label);
     print(step);
     print_number(b": ", number);
@@ -296,7 +303,7 @@ pub fn call(
     let abcd = bench.abcd;
     let image = bench.image;
     match k {
-        0..=ROOM => state,
+        0..=ROOM | STREAM..=END => state,
         READ => {
             read(label, image, bench);
             state

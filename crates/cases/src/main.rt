@@ -2,10 +2,13 @@
 // or from standard input, has a line for each: a label, a colon, and steps with semicolons between them. Each call that
 // a step makes prints a line.
 mod calls;
+mod chunks;
 mod print;
 
 use exchange::State;
+use given::Bench;
 use program::text;
+use stream::Stream;
 ghost use Prim.Native.Nat.{_≤_};
 
 // a step: its line in the table, and how many numbers are behind it
@@ -31,11 +34,35 @@ fn parsed(s: &[u8], row: &mut [u64; 8]) -> Step
     Step { k: k, n: n }
 }
 
-// Each case has a bench of its own; the state goes on from the case before, unless it is started anew.
-fn case(line: &[u8], state: State) -> State {
+// what goes on from case to case, unless it is started anew
+struct Kept {
+    state: State,
+    stream: Stream,
+}
+
+// a step is a call on the state, on the stream, or none
+fn called(
+    label: &[u8],
+    words: &[u8],
+    bench: Bench,
+    kept: Kept,
+    window: &mut [u8; 2048],
+    step: Step,
+    row: &[u64; 8],
+) -> Kept {
+    let state = calls::call(label, words, bench, kept.state, step.k, row, step.n);
+    let stream = chunks::call(label, words, bench, kept.stream, window, step.k, row);
+    Kept {
+        state: state,
+        stream: stream,
+    }
+}
+
+// Each case has a bench of its own.
+fn case(line: &[u8], kept: Kept, window: &mut [u8; 2048]) -> Kept {
     let c = text::until(line, 0, b':');
     let mut bench = given::new();
-    let mut state = state;
+    let mut kept = kept;
     let mut at = c + 1;
     while at < line.len() {
         let from = at;
@@ -44,27 +71,23 @@ fn case(line: &[u8], state: State) -> State {
         let mut row = [0; 8];
         let step = parsed(&line[from..e], &mut row);
         bench = bench.made(step.k, &row, step.n);
-        state = calls::call(
-            &line[0..c],
-            &line[from..e],
-            bench,
-            state,
-            step.k,
-            &row,
-            step.n,
-        );
+        kept = called(&line[0..c], &line[from..e], bench, kept, window, step, &row);
     }
-    state
+    kept
 }
 
 // A line that is empty or begins with # is a remark: it has no steps.
 fn cases(s: &[u8]) {
-    let mut state = exchange::start();
+    let mut kept = Kept {
+        state: exchange::start(),
+        stream: stream::start(),
+    };
+    let mut window = [0; 2048];
     let mut at = 0;
     while at < s.len() {
         let e = text::until(s, at, b'\n');
         if s[at] != b'#' {
-            state = case(&s[at..e], state);
+            kept = case(&s[at..e], kept, &mut window);
         }
         at = e + 1;
     }

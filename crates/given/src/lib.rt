@@ -3,7 +3,7 @@ use program::text::limited;
 ghost use Prim.Native.Nat.{_<_, _≤_};
 
 // The steps of a case, by the lines of this table. Up to ROOM they make something, here; those behind it call.
-pub const STEPS: [u8; 166] = *b"\
+pub const STEPS: [u8; 188] = *b"\
     payload\n\
     overhead\n\
     alike\n\
@@ -30,7 +30,11 @@ pub const STEPS: [u8; 166] = *b"\
     map\n\
     why\n\
     signals\n\
-    write-signalled\n";
+    write-signalled\n\
+    stream\n\
+    feed\n\
+    feeds\n\
+    end\n";
 
 const PAYLOAD: usize = 0;
 
@@ -64,7 +68,7 @@ const PART: usize = 14;
 
 pub const ROOM: usize = 15;
 
-pub const UNKNOWN: usize = 27;
+pub const UNKNOWN: usize = 31;
 
 // A payload, an overhead, XY and ABCD, of one multiframe more than a call takes; an image; which of its octets are read,
 // and into how much room.

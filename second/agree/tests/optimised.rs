@@ -5,6 +5,7 @@ use given::Random;
 use optimised::{chain, fold, Check};
 use oracle::check::check;
 use oracle::line::{bits, number, BLOCK};
+use oracle::{Fed, Reading};
 
 const MAPS: u64 = 24_000;
 const CHECKS: u64 = 4_000;
@@ -21,6 +22,51 @@ fn reads_folded() {
     agree::reads("the folded form", |image, payload, slot0| {
         optimised::read(image, payload, slot0, fold::check)
     });
+}
+
+/// A stream with either check.
+macro_rules! stream {
+    ($name:ident, $check:expr) => {
+        #[derive(Clone, PartialEq)]
+        struct $name(optimised::Stream);
+
+        impl agree::Stream for $name {
+            fn start() -> $name {
+                $name(optimised::Stream::start())
+            }
+
+            fn feed(&mut self, chunk: &[u8], payload: &mut [u8], slot0: &mut [u8]) -> Fed {
+                self.0.feed(chunk, payload, slot0, $check)
+            }
+
+            fn end(&mut self) -> Reading {
+                self.0.end()
+            }
+        }
+    };
+}
+
+stream!(Chained, chain::check);
+stream!(Folded, fold::check);
+
+#[test]
+fn streams() {
+    agree::streams::<Chained>("the optimised form");
+}
+
+#[test]
+fn streams_folded() {
+    agree::streams::<Folded>("the folded form");
+}
+
+#[test]
+fn streams_by_octets() {
+    agree::streams_by_octets::<Chained>("the optimised form");
+}
+
+#[test]
+fn longest() {
+    agree::longest::<Chained>("the optimised form");
 }
 
 #[test]

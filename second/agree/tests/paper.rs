@@ -1,6 +1,6 @@
 //! The oracle held to the bench cases of the paper, by their numbers, and to
 //! what the paper promises of the loss, of `wordbits`, of `why`, of numbers 3 and
-//! 15 and of signalling.
+//! 15, of signalling and of lines in chunks.
 
 use agree::seed;
 use given::making::{
@@ -12,8 +12,8 @@ use oracle::line::{bits, number, octets, wrong_bits, BLOCK, FRAME, SIGNAL, WORD}
 use oracle::why::with_room;
 use oracle::writing::odd_slot0;
 use oracle::{
-    read, report, said, signals, why, write, write_signalled, Answer, Exchange, Reading, Signals,
-    Why,
+    read, report, said, signals, why, write, write_signalled, Answer, Exchange, Fed, Reading,
+    Signals, Stream, Why,
 };
 
 const IMAGES: u64 = 4_000;
@@ -275,6 +275,74 @@ fn case_19_either_loss() {
     assert_eq!(lost(5, &[], &[17, 19, 21], 14), (512, 5, 0, 2));
 }
 
+/// Feeds a chunk with room for so many multiframes.
+fn feed(stream: &mut Stream, chunk: &[u8], room: usize) -> Fed {
+    let (mut payload, mut slot0) = (vec![0; 496 * room], vec![0; 16 * room]);
+    stream.feed(chunk, &mut payload, &mut slot0)
+}
+
+fn left(multiframes: u64) -> Fed {
+    Fed {
+        number: 0,
+        multiframes,
+    }
+}
+
+fn unfed(number: u64) -> Fed {
+    Fed {
+        number,
+        multiframes: 0,
+    }
+}
+
+#[test]
+fn case_20_chunks() {
+    let line = line(5);
+    let mut stream = Stream::start();
+    for chunk in [&line[..0], &line[..1], &line[1..2_047]] {
+        assert_eq!(feed(&mut stream, chunk, 0), left(0));
+    }
+    assert_eq!(stream.end(), refusal(1));
+    assert_eq!(feed(&mut stream, &line[2_047..2_048], 4), left(4));
+    assert_eq!(feed(&mut stream, &line[2_048..2_049], 0), left(0));
+    let last = &line[2_049..];
+    assert_eq!(stream.feed(last, &mut [0; 495], &mut [0; 16]), unfed(4));
+    assert_eq!(stream.feed(last, &mut [0; 496], &mut [0; 15]), unfed(4));
+    assert_eq!(feed(&mut stream, last, 1), left(1));
+    assert_eq!(stream.end(), read_all(&line));
+    assert_eq!(feed(&mut stream, &[], 0), unfed(21));
+    assert_eq!(stream.end(), refusal(21));
+}
+
+#[test]
+fn case_20_an_end_too_early() {
+    let mut stream = Stream::start();
+    assert_eq!(feed(&mut stream, &[0; 2_048], 0), left(0));
+    assert_eq!(stream.end(), refusal(3));
+    let mut image = line(4);
+    wrong_signals(&mut image, &[0, 1, 2, 3]);
+    assert_eq!(feed(&mut stream, &image, 0), left(0));
+    assert_eq!(stream.end(), basic_only(16_384));
+    assert_eq!(feed(&mut stream, &line(4), 4), left(4));
+    let r = stream.end();
+    assert_eq!((r.number, r.place, r.start), (0, 23_552, 32_768));
+    assert_eq!((r.whole, r.used), (4, 4));
+}
+
+#[test]
+fn case_20_the_longest_line() {
+    let line = line(16).repeat(2_048);
+    let (front, last) = line.split_at(line.len() - 1);
+    let mut stream = Stream::start();
+    assert_eq!(feed(&mut stream, front, 32_767), left(32_767));
+    assert_eq!(feed(&mut stream, &[0; 2], 0), unfed(17));
+    assert_eq!(feed(&mut stream, last, 1), left(1));
+    let r = stream.end();
+    assert_eq!((r.number, r.whole, r.used), (0, 32_768, 32_768));
+    assert_eq!((r.compared, r.errored), (65_535, 2_047));
+    assert_eq!(feed(&mut stream, &[0; 2], 0), unfed(21));
+}
+
 /// What is heard of a line of which slot 16 is this, over and over, frame 0
 /// first, with ABCD of the first signalling multiframe read.
 fn heard(slots: &[u8; 16]) -> (Signals, [u8; 30]) {
@@ -388,6 +456,43 @@ fn signalling_in_the_words_of_the_paper() {
         twice += u64::from(losses > 1);
     }
     assert!(lost >= IMAGES / 8 && twice >= IMAGES / 40, "{lost} {twice}");
+}
+
+/// After each chunk all used multiframes of the joined line have left, and its end
+/// would answer what a reading of it does.
+#[test]
+fn chunks_in_the_words_of_the_paper() {
+    let seed = seed(&format!("{IMAGES} images in chunks"));
+    let mut several = 0;
+    for item in 0..IMAGES {
+        let r = &mut Random::new(seed, item);
+        let image = given::image(r);
+        let (mut stream, mut joined) = (Stream::start(), Vec::new());
+        let (mut payload, mut slot0): (Vec<u8>, Vec<u8>) = (Vec::new(), Vec::new());
+        let mut leaving = 0;
+        for chunk in given::chunks(r, &image) {
+            joined.extend(chunk);
+            if joined.len() > 8_192 {
+                break;
+            }
+            let most = chunk.len() / 512 + 4;
+            let (mut out, mut out0) = (vec![0; 496 * most], vec![0; 16 * most]);
+            let fed = stream.feed(chunk, &mut out, &mut out0);
+            assert_eq!(fed.number, 0, "image {item}");
+            payload.extend(&out[..496 * fed.multiframes as usize]);
+            slot0.extend(&out0[..16 * fed.multiframes as usize]);
+
+            let (mut read_payload, mut read_slot0) = ([0; 7_936], [0; 256]);
+            let reading = read(&joined, &mut read_payload, &mut read_slot0);
+            let used = reading.used as usize;
+            assert!(payload == read_payload[..496 * used], "image {item}");
+            assert!(slot0 == read_slot0[..16 * used], "image {item}");
+            assert_eq!(stream.clone().end(), reading, "image {item}");
+            leaving += u64::from(fed.multiframes > 0);
+        }
+        several += u64::from(leaving > 1);
+    }
+    assert!(several >= IMAGES / 8, "{several}");
 }
 
 /// What is written with signalling is what is written without, of a payload

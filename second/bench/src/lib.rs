@@ -2,6 +2,11 @@
 //! copy of the octets that the call hands over. The form under test, where
 //! there is one, comes first, and the ratios are its own.
 
+mod chunks;
+
+pub use chunks::feeds;
+
+use chunks::{Chunks, Feeds};
 use given::making::{densest, false_starts, set_slot16, shifted, wrong_signals};
 use given::Random;
 use optimised::{chain, fold, Check};
@@ -22,7 +27,8 @@ type WriteSignalled = Box<dyn Fn(&[u8], &[u8], u64, &[u8], &[u8], &mut [u8]) -> 
 type Map = Box<dyn Fn(&[u8], &mut [u8]) -> u64>;
 
 /// The operations in one form, each answering its number with the rest of its
-/// answer `hidden`. `map` has the map that `records` make.
+/// answer `hidden`. `map` has the map that `records` make; there are no `feeds`
+/// where they would take too long.
 pub struct Form {
     pub name: &'static str,
     pub read: Read,
@@ -31,6 +37,7 @@ pub struct Form {
     pub write: Write,
     pub write_signalled: WriteSignalled,
     pub map: Map,
+    pub feeds: Option<Feeds>,
 }
 
 /// The oracle.
@@ -48,6 +55,7 @@ pub fn plain() -> Form {
             hidden(write_signalled(payload, overhead, check, xy, abcd, out)).number
         }),
         map: Box::new(move |payload, out| exchange.map(payload, out)),
+        feeds: None,
     }
 }
 
@@ -79,6 +87,10 @@ fn with_check(name: &'static str, check: Check) -> Form {
             hidden(written).number
         }),
         map: Box::new(move |payload, out| optimised::map(&exchange, payload, out)),
+        feeds: Some(feeds(
+            optimised::Stream::start,
+            move |stream, chunk, payload, slot0| stream.feed(chunk, payload, slot0, check),
+        )),
     }
 }
 
@@ -128,6 +140,7 @@ enum Asked {
         image: Vec<u8>,
         condition: u64,
     },
+    Feed(Chunks),
 }
 
 type Row = (&'static str, Asked);
@@ -191,6 +204,12 @@ fn rows() -> Vec<Row> {
     ]
 }
 
+fn feed_rows() -> Vec<Row> {
+    let rows = chunks::rows().into_iter();
+    rows.map(|(name, chunks)| (name, Asked::Feed(chunks)))
+        .collect()
+}
+
 type Contender<'a> = Box<dyn FnMut() + 'a>;
 
 /// The value, from a place that the compiler must believe was read and set
@@ -213,6 +232,7 @@ impl Asked {
             | Asked::WriteSignalled { payload, .. }
             | Asked::Map { payload } => payload,
             Asked::Why { image, .. } => &image[..2_048],
+            Asked::Feed(chunks) => &chunks.octets()[..chunks.octets().len() / 512 * 496],
         }
     }
 
@@ -225,11 +245,11 @@ impl Asked {
         })
     }
 
-    /// The call in this form.
-    fn of<'a>(&'a self, form: &'a Form) -> Contender<'a> {
+    /// The call in this form, where it has one.
+    fn of<'a>(&'a self, form: &'a Form) -> Option<Contender<'a>> {
         let mut out = vec![0; 8_192];
         let mut slot0 = [0; 256];
-        match self {
+        Some(match self {
             Asked::Read { image, number } => {
                 let answered = (form.read)(image, &mut out, &mut slot0);
                 assert_eq!(answered, *number, "{}", form.name);
@@ -277,27 +297,36 @@ impl Asked {
                     hidden((form.why)(image, place));
                 })
             }
-        }
+            Asked::Feed(chunks) => return form.feeds.as_ref().map(|feeds| feeds(chunks)),
+        })
     }
 }
 
-/// Without arguments the table; with `rows` their names; with a form, a row
-/// and a count, that many calls and nothing else, for a program that counts
-/// instructions.
+/// Without arguments the tables; with `rows` the names of the first, with `feeds`
+/// those of the second and the octets of each; with a form, a row and a count,
+/// that many calls and nothing else, for a program that counts instructions.
 pub fn main(forms: &[Form]) -> ExitCode {
     let arguments: Vec<String> = env::args().skip(1).collect();
     let arguments: Vec<&str> = arguments.iter().map(String::as_str).collect();
     let done = match arguments[..] {
         [] => {
             table(forms);
+            println!();
+            feed_table(forms);
             Ok(())
         }
         ["rows"] => {
             println!("{}", names(&rows()).join("\n"));
             Ok(())
         }
+        ["feeds"] => {
+            for (name, chunks) in chunks::rows() {
+                println!("{name} {}", chunks.octets().len());
+            }
+            Ok(())
+        }
         [form, row, count] => run(forms, form, row, count),
-        _ => Err("nothing, `rows`, or a form, a row and a count".to_string()),
+        _ => Err("nothing, `rows`, `feeds`, or a form, a row and a count".to_string()),
     };
     match done {
         Ok(()) => ExitCode::SUCCESS,
@@ -313,14 +342,15 @@ fn names(rows: &[Row]) -> Vec<&'static str> {
 }
 
 fn run(forms: &[Form], form: &str, row: &str, count: &str) -> Result<(), String> {
-    let rows = rows();
+    let mut rows = rows();
+    rows.extend(feed_rows());
     let (_, asked) = rows
         .iter()
         .find(|(name, _)| *name == row)
         .ok_or_else(|| format!("no row {row}; there are {}", names(&rows).join(", ")))?;
-    let mut contender = match forms.iter().find(|f| f.name == form) {
+    let contender = match forms.iter().find(|f| f.name == form) {
         Some(form) => asked.of(form),
-        None if form == "copy" => asked.copier(),
+        None if form == "copy" => Some(asked.copier()),
         None => {
             let forms: Vec<&str> = forms.iter().map(|f| f.name).collect();
             return Err(format!(
@@ -329,37 +359,59 @@ fn run(forms: &[Form], form: &str, row: &str, count: &str) -> Result<(), String>
             ));
         }
     };
+    let mut contender = contender.ok_or_else(|| format!("no {row} in form {form}"))?;
     let calls = count.parse().map_err(|_| format!("no count {count}"))?;
     time(&mut contender, calls);
     Ok(())
 }
 
+/// Microseconds a call.
 fn table(forms: &[Form]) {
+    let forms: Vec<&Form> = forms.iter().collect();
+    print_head("Call", &forms, "µs");
+    for (name, asked) in rows() {
+        print_row(name, &best_of(&asked, &forms), 1_000.0);
+    }
+}
+
+/// Nanoseconds an octet, in the forms that feed.
+fn feed_table(forms: &[Form]) {
+    let forms: Vec<&Form> = forms.iter().filter(|f| f.feeds.is_some()).collect();
+    print_head("Octet", &forms, "ns");
+    for (name, chunks) in chunks::rows() {
+        let octets = chunks.octets().len() as f64;
+        print_row(name, &best_of(&Asked::Feed(chunks), &forms), octets);
+    }
+}
+
+fn print_head(what: &str, forms: &[&Form], unit: &str) {
     let names: Vec<&str> = forms.iter().map(|f| f.name).chain(["copy"]).collect();
-    print!("| Call |");
+    print!("| {what} |");
     for name in &names {
-        print!(" {name}, µs |");
+        print!(" {name}, {unit} |");
     }
     for name in &names[1..] {
         print!(" {} / {name} |", names[0]);
     }
     println!("\n|---|{}", "---:|".repeat(2 * names.len() - 1));
-    for (name, asked) in rows() {
-        let mut contenders: Vec<Contender> = forms.iter().map(|f| asked.of(f)).collect();
-        contenders.push(asked.copier());
-        print_row(name, &best(&mut contenders));
-    }
 }
 
-fn print_row(name: &str, best: &[f64]) {
+fn print_row(name: &str, best: &[f64], unit: f64) {
     print!("| {name} |");
     for ns in best {
-        print!(" {:.2} |", ns / 1_000.0);
+        print!(" {:.2} |", ns / unit);
     }
     for other in &best[1..] {
         print!(" {:.3} |", best[0] / other);
     }
     println!();
+}
+
+/// Of each form, and at last of the copy.
+fn best_of(asked: &Asked, forms: &[&Form]) -> Vec<f64> {
+    let mut contenders: Vec<Contender> = forms.iter().filter_map(|f| asked.of(f)).collect();
+    contenders.push(asked.copier());
+    best(&mut contenders)
 }
 
 /// How many calls fill about a round.

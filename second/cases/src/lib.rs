@@ -3,11 +3,14 @@
 
 #![forbid(unsafe_code)]
 
+mod chunks;
+
+use chunks::chunks;
 use given::making::{
     flip, set_basic, set_slot16, shifted, wrong_bits_2, wrong_signals, wrong_words,
 };
 use oracle::line::octets;
-use oracle::{read, signals, why, write, write_signalled, Exchange};
+use oracle::{read, signals, why, write, write_signalled, Exchange, Reading};
 use std::fmt::Write;
 
 /// What every lent octet holds before a call.
@@ -26,6 +29,7 @@ pub fn all() -> String {
     far_ends(&mut text);
     basics(&mut text);
     outputs(&mut text);
+    chunks(&mut text);
     whys(&mut text);
     heard(&mut text);
     alignments(&mut text);
@@ -92,14 +96,19 @@ fn signalled(n: usize) -> Vec<u8> {
 fn read_into(text: &mut String, label: &str, image: &[u8], room: usize, room0: usize) {
     let (mut payload, mut slot0) = (vec![BEFORE; room], vec![BEFORE; room0]);
     let r = read(image, &mut payload, &mut slot0);
-    write!(text, "{label}: {} place {}", r.number, r.place).unwrap();
+    write!(text, "{label}: ").unwrap();
+    write_values(text, &r);
+    let (payload, slot0) = (digest(&payload), digest(&slot0));
+    writeln!(text, " payload {payload} slot0 {slot0}").unwrap();
+}
+
+fn write_values(text: &mut String, r: &Reading) {
+    write!(text, "{} place {}", r.number, r.place).unwrap();
     write!(text, " start {} whole {}", r.start, r.whole).unwrap();
     write!(text, " used {} lost {}", r.used, r.lost).unwrap();
     write!(text, " words {} compared {}", r.words, r.compared).unwrap();
     write!(text, " errored {} farend {}", r.errored, r.farend).unwrap();
     write!(text, " wordbits {} cause {}", r.wordbits, r.cause).unwrap();
-    let (payload, slot0) = (digest(&payload), digest(&slot0));
-    writeln!(text, " payload {payload} slot0 {slot0}").unwrap();
 }
 
 /// Turns over the bits at these places.
@@ -154,11 +163,16 @@ fn unsignalled(n: usize, multiframes: &[usize], without: usize) -> Vec<u8> {
 
 /// Place 0 is that of slot 1 of a frame: words and bit 2, but no signal.
 fn false_place() -> Vec<u8> {
+    with_false_place().split_off(1)
+}
+
+/// A line in which that is place 8.
+fn with_false_place() -> Vec<u8> {
     let mut payload = payload(496 * 5);
     payload[0] = 0x1B;
     payload[31] = 0x40;
     payload[62] = 0x1B;
-    line_of(&payload, &overhead(40)).split_off(1)
+    line_of(&payload, &overhead(40))
 }
 
 fn losses(text: &mut String) {

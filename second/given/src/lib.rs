@@ -4,12 +4,14 @@
 #![forbid(unsafe_code)]
 
 mod asked;
+mod chunks;
 mod image;
 pub mod making;
 mod random;
 mod signalled;
 
 pub use asked::{asked, Asked};
+pub use chunks::{chunks, joined, longest};
 pub use image::image;
 pub use random::Random;
 pub use signalled::{signalled, write_signalled, WriteSignalled};

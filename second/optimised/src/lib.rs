@@ -1,6 +1,6 @@
-//! Reading, asking why, writing, both with signalling too, and mapping once more,
-//! as fast as safe Rust has them here: many places in one window of 64 bits,
-//! checks by folding, octets moved by the frame. The mark that the proved
+//! Reading, in chunks too, asking why, writing, both with signalling too, and
+//! mapping once more, as fast as safe Rust has them here: many places in one window
+//! of 64 bits, checks by folding, octets moved by the frame. The mark that the proved
 //! library's times are held to; the agreement tests hold it to the oracle.
 //! Reading and writing take the check of [`chain`] or that of [`fold`]; nothing
 //! else differs.
@@ -14,12 +14,14 @@ mod mapping;
 mod place;
 mod reading;
 mod signalling;
+mod stream;
 mod why;
 mod writing;
 
 pub use mapping::map;
 pub use reading::read;
 pub use signalling::{signals, write_signalled};
+pub use stream::Stream;
 pub use why::why;
 pub use writing::write;
 

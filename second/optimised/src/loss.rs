@@ -4,7 +4,7 @@
 
 /// The last multiframe seen, frame 0 the highest bit of sixteen, and above it
 /// those before.
-#[derive(Default)]
+#[derive(Clone, Default, PartialEq, Eq)]
 pub struct Runs(u32);
 
 impl Runs {

@@ -6,7 +6,7 @@ use crate::place::{self, Found};
 use crate::Check;
 use oracle::Reading;
 
-fn refused(number: u64) -> Reading {
+pub fn refused(number: u64) -> Reading {
     Reading {
         number,
         ..Reading::default()
@@ -14,7 +14,7 @@ fn refused(number: u64) -> Reading {
 }
 
 /// No place stands, and this is the first with basic alignment.
-fn basic_only(place: usize) -> Reading {
+pub fn basic_only(place: usize) -> Reading {
     Reading {
         place: place as u64,
         ..refused(15)
@@ -39,7 +39,7 @@ pub fn read(image: &[u8], payload: &mut [u8], slot0: &mut [u8], check: Check) ->
     let (line, o) = (&image[start / 8..], start % 8);
     let mut slots = [0; 256];
     gather(line, o, &mut slots[..16 * whole]);
-    let judged = judge(&slots[..16 * whole]);
+    let judged = judge(&slots[..16 * whole], &mut Runs::default());
     let used = judged.lost.map_or(whole, |f| f / 16);
     if payload.len() < 496 * used || slot0.len() < 16 * used {
         return refused(4);
@@ -64,7 +64,7 @@ pub fn read(image: &[u8], payload: &mut [u8], slot0: &mut [u8], check: Check) ->
 }
 
 /// Slot 0 of every frame; o is the bit of an octet at which frames begin.
-fn gather(line: &[u8], o: usize, slots: &mut [u8]) {
+pub fn gather(line: &[u8], o: usize, slots: &mut [u8]) {
     for (frame, slot) in line.chunks(32).zip(slots) {
         let two = u16::from_be_bytes([frame[0], frame[1]]);
         *slot = (two >> (8 - o)) as u8;
@@ -73,16 +73,16 @@ fn gather(line: &[u8], o: usize, slots: &mut [u8]) {
 
 /// The loss, and what is wrong in the words of the multiframes before it.
 #[derive(Default)]
-struct Judged {
-    lost: Option<usize>,
-    words: u64,
-    wordbits: u64,
+pub struct Judged {
+    pub lost: Option<usize>,
+    pub words: u64,
+    pub wordbits: u64,
 }
 
-/// Judges a multiframe at a time; one in which all is right takes one test.
-fn judge(slots: &[u8]) -> Judged {
+/// Judges a multiframe at a time, behind these runs; one in which all is right
+/// takes one test.
+pub fn judge(slots: &[u8], runs: &mut Runs) -> Judged {
     let mut judged = Judged::default();
-    let mut runs = Runs::default();
     for (m, slots) in slots.chunks_exact(16).enumerate() {
         let wrong = wrong_in(slots);
         if wrong == 0 {
@@ -129,7 +129,7 @@ fn frames_of(wrong: u128) -> u32 {
 }
 
 /// Slots 1 to 31 of every frame.
-fn take(line: &[u8], o: usize, payload: &mut [u8]) {
+pub fn take(line: &[u8], o: usize, payload: &mut [u8]) {
     if o != 0 {
         return take_moved(line, o, payload);
     }
@@ -168,13 +168,13 @@ fn moved(octets: &[u8], o: usize) -> [u8; 32] {
 }
 
 /// The check bits that block b carries, C1 the bit worth 8.
-fn carried(slots: &[u8], b: usize) -> u8 {
+pub fn carried(slots: &[u8], b: usize) -> u8 {
     let c = |i: usize| slots[8 * b + 2 * i] >> 7;
     c(0) << 3 | c(1) << 2 | c(2) << 1 | c(3)
 }
 
 /// Blocks errored.
-fn compare(line: &[u8], o: usize, slots: &[u8], check: Check) -> u64 {
+pub fn compare(line: &[u8], o: usize, slots: &[u8], check: Check) -> u64 {
     let mut errored = 0;
     for b in 1..slots.len() / 8 {
         let agreed = check(&line[256 * (b - 1)..], o) == carried(slots, b);
@@ -184,7 +184,7 @@ fn compare(line: &[u8], o: usize, slots: &[u8], check: Check) -> u64 {
 }
 
 /// E bits that are 0; an octet holds their count, which is at most 32.
-fn far_end_errors(slots: &[u8]) -> u64 {
+pub fn far_end_errors(slots: &[u8]) -> u64 {
     let zeros = |slots: &[u8]| u8::from(slots[13] < 128) + u8::from(slots[15] < 128);
     let zeros: u8 = slots.chunks_exact(16).map(zeros).sum();
     u64::from(zeros)

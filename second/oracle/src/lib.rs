@@ -10,11 +10,13 @@ pub mod line;
 pub mod place;
 pub mod reading;
 pub mod signalling;
+pub mod stream;
 pub mod why;
 pub mod writing;
 
 pub use exchange::{Answer, Exchange};
 pub use reading::{read, report, Reading};
 pub use signalling::{signals, write_signalled, Signals};
+pub use stream::{Fed, Stream};
 pub use why::{said, why, Why};
 pub use writing::{write, Written};

@@ -26,7 +26,7 @@ pub struct Reading {
 const BY_WORDS: u64 = 1;
 const BY_BITS_2: u64 = 2;
 
-fn refused(number: u64) -> Reading {
+pub fn refused(number: u64) -> Reading {
     Reading {
         number,
         ..Reading::default()
@@ -36,31 +36,66 @@ fn refused(number: u64) -> Reading {
 /// Reads an image from the first place that stands: slots 1 to 31 of the
 /// multiframes used go to `payload`, slot 0 of each of their frames to `slot0`.
 pub fn read(image: &[u8], payload: &mut [u8], slot0: &mut [u8]) -> Reading {
-    if image.len() < 2_048 {
-        return refused(1);
-    }
     if image.len() > 8_192 {
         return refused(2);
     }
-    let image = bits(image);
-    let (p, k) = match place::first(&image) {
-        Some(found) => found,
-        None => return without_place(&image),
-    };
-    let start = p + 512 * k;
-    let whole = (image.len() - start) / MULTIFRAME;
-    let line = &image[start..start + whole * MULTIFRAME];
+    let line = Line::read(image);
+    match line.fill(0, payload, slot0) {
+        true => line.reading,
+        false => refused(4),
+    }
+}
+
+/// A line of any length as it is read, with the octets of the multiframes used.
+/// Of a refused one there are none.
+pub struct Line {
+    pub reading: Reading,
+    payload: Vec<u8>,
+    slot0: Vec<u8>,
+}
+
+impl Line {
+    pub fn read(line: &[u8]) -> Line {
+        let unread = |reading| Line {
+            reading,
+            payload: Vec::new(),
+            slot0: Vec::new(),
+        };
+        if line.len() < 2_048 {
+            return unread(refused(1));
+        }
+        let line = bits(line);
+        match place::first(&line) {
+            Some((p, k)) => from_start(&line, p, p + 512 * k),
+            None => unread(without_place(&line)),
+        }
+    }
+
+    /// Puts what there is from this multiframe on to the front of the outputs,
+    /// where they have room for it.
+    pub fn fill(&self, from: usize, payload: &mut [u8], slot0: &mut [u8]) -> bool {
+        let (octets, octets0) = (&self.payload[496 * from..], &self.slot0[16 * from..]);
+        let room = payload.len() >= octets.len() && slot0.len() >= octets0.len();
+        if room {
+            payload[..octets.len()].copy_from_slice(octets);
+            slot0[..octets0.len()].copy_from_slice(octets0);
+        }
+        room
+    }
+}
+
+/// The place p stands, and this is the start.
+fn from_start(line: &[u8], p: usize, start: usize) -> Line {
+    let whole = (line.len() - start) / MULTIFRAME;
+    let line = &line[start..start + whole * MULTIFRAME];
     let words = words(line);
     let loss = loss(&words, &bits_2(line));
     let used = loss.map_or(whole, |(f, _)| f / 16);
-    if payload.len() < 496 * used || slot0.len() < 16 * used {
-        return refused(4);
-    }
     let (line, words) = (&line[..used * MULTIFRAME], &words[..8 * used]);
-    take(line, payload, slot0);
+    let (payload, slot0) = take(line);
     let agreed = agreed(line);
     let (lost, cause) = loss.unwrap_or((0, 0));
-    Reading {
+    let reading = Reading {
         number: 0,
         place: p as u64,
         start: start as u64,
@@ -73,10 +108,15 @@ pub fn read(image: &[u8], payload: &mut [u8], slot0: &mut [u8]) -> Reading {
         farend: far_end_errors(line),
         wordbits: words.iter().sum(),
         cause,
+    };
+    Line {
+        reading,
+        payload,
+        slot0,
     }
 }
 
-/// The refusal of an image in which no place stands.
+/// The refusal of a line in which no place stands.
 fn without_place(bits: &[u8]) -> Reading {
     match place::first_basic(bits) {
         Some(p) => Reading {
@@ -120,13 +160,15 @@ fn third_in_row(wrong: &[bool]) -> Option<usize> {
     (2..wrong.len()).find(|&i| wrong[i - 2] && wrong[i - 1] && wrong[i])
 }
 
-/// Slot 0 of every frame to one output, slots 1 to 31 to the other.
-fn take(line: &[u8], payload: &mut [u8], slot0: &mut [u8]) {
-    for (f, frame) in line.chunks(FRAME).enumerate() {
+/// Slots 1 to 31 of every frame, and slot 0.
+fn take(line: &[u8]) -> (Vec<u8>, Vec<u8>) {
+    let (mut payload, mut slot0) = (Vec::new(), Vec::new());
+    for frame in line.chunks(FRAME) {
         let slots = octets(frame);
-        slot0[f] = slots[0];
-        payload[31 * f..31 * (f + 1)].copy_from_slice(&slots[1..]);
+        slot0.push(slots[0]);
+        payload.extend(&slots[1..]);
     }
+    (payload, slot0)
 }
 
 /// For every block but the last, whether its check is what the next carries.

@@ -6,10 +6,10 @@ use Rattle.cases.proofs.case.Statement.{statement}
 use Rattle.cases.proofs.case.Tie as tie
 
 abbrev Inv-loop : tie.InvT-loop
-Inv-loop line c bench₀ state₀ at₀ bench state at = at ≤ length line + 1
+Inv-loop line window₀ c bench₀ kept₀ at₀ window bench kept at = at ≤ length line + 1
 
 abbrev μ-loop : tie.MeasureT-loop
-μ-loop line c bench₀ state₀ at₀ bench state at = length line + 1 - at
+μ-loop line window₀ c bench₀ kept₀ at₀ window bench kept at = length line + 1 - at
 
 pub case-spec : {M : Type 1} → statement M
 case-spec =

@@ -6,14 +6,14 @@ use Rattle.cases.proofs.cases.Statement.{statement}
 use Rattle.cases.proofs.cases.Tie as tie
 
 abbrev Inv-loop : tie.InvT-loop
-Inv-loop s state₀ at₀ state at = at ≤ length s + 1
+Inv-loop s kept₀ window₀ at₀ kept window at = at ≤ length s + 1
 
 abbrev μ-loop : tie.MeasureT-loop
-μ-loop s state₀ at₀ state at = length s + 1 - at
+μ-loop s kept₀ window₀ at₀ kept window at = length s + 1 - at
 
 pub cases-spec : {M : Type 1} → statement M
 cases-spec =
     tie.close
     (tie.spec Inv-loop μ-loop
     (search needs) (search needs) (search needs) (search needs) (search needs) (search needs)
-    (search needs) (search needs) (search needs) (search needs) (search needs) (search needs))
+    (search needs) (search needs) (search needs) (search needs) (search needs) (search needs) (search needs))

@@ -36,7 +36,15 @@ pub fn read(image: &[u8], payload: &mut [u8], slot0: &mut [u8]) -> Reading {
             answer,
         )
     });
-    let r = match jikhvanto::read(image, payload, slot0) {
+    let r = reading(jikhvanto::read(image, payload, slot0));
+    assert_eq!(answer, reading_places(&r));
+    assert!(c_payload == payload && c_slot0 == slot0, "outputs of {r:?}");
+    r
+}
+
+/// What the binding says of a read, or at a stream's end.
+pub fn reading(answer: Result<jikhvanto::Reading, Refusal>) -> Reading {
+    match answer {
         Ok(r) => Reading {
             number: 0,
             place: r.place as u64,
@@ -56,14 +64,15 @@ pub fn read(image: &[u8], payload: &mut [u8], slot0: &mut [u8]) -> Reading {
             place: place(refusal),
             ..Reading::default()
         },
-    };
-    let values = [
+    }
+}
+
+/// The same as the C interface has it.
+pub fn reading_places(r: &Reading) -> [u64; ANSWER] {
+    places([
         r.number, r.place, r.start, r.whole, r.used, r.lost, r.words, r.compared, r.errored,
         r.farend, r.wordbits, r.cause,
-    ];
-    assert_eq!(answer, places(values));
-    assert!(c_payload == payload && c_slot0 == slot0, "outputs of {r:?}");
-    r
+    ])
 }
 
 /// The number of a cause.

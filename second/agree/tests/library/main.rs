@@ -2,6 +2,7 @@
 
 mod kit;
 mod runs;
+mod streams;
 
 use agree::{seed, write_both, write_signalled_both};
 use given::{overhead, Random};

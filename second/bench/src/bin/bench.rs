@@ -3,7 +3,8 @@
 //! the same without the library.
 
 use bench::{hidden, Form};
-use jikhvanto::{Refusal, State};
+use jikhvanto::{Refusal, State, Stream};
+use oracle::Fed;
 use std::process::ExitCode;
 
 fn main() -> ExitCode {
@@ -27,6 +28,7 @@ fn kit() -> Form {
             number(hidden(written))
         }),
         map: Box::new(move |payload, out| number(state.map(payload, out))),
+        feeds: Some(bench::feeds(Stream::new, feed)),
     }
 }
 
@@ -38,6 +40,14 @@ fn state() -> Result<State, Refusal> {
     }
     state.boundary();
     Ok(state)
+}
+
+fn feed(stream: &mut Stream, chunk: &[u8], payload: &mut [u8], slot0: &mut [u8]) -> Fed {
+    let left = stream.feed(chunk, payload, slot0);
+    Fed {
+        number: number(left),
+        multiframes: left.unwrap_or(0) as u64,
+    }
 }
 
 fn number<T>(answer: Result<T, Refusal>) -> u64 {
