@@ -1,7 +1,7 @@
 #!/usr/bin/env python3
-"""Draws docs/multiframe.svg, docs/fold.svg and docs/exchange.svg.
+"""Draws docs/multiframe.svg, docs/fold.svg, docs/chunks.svg and docs/exchange.svg.
 
-docs/draw.py            writes all three
+docs/draw.py            writes all of them
 docs/draw.py --check    writes nothing, and fails where a file is not what would be written
 """
 import os
@@ -28,6 +28,15 @@ def lines(x, y, words, anchor="middle", style="s"):
 def box(x, y, w, h, fill, words="", style=""):
     rect = f'<rect x="{x}" y="{y}" width="{w}" height="{h}" fill="{fill}" stroke="{INK}" stroke-width="0.8"/>'
     return rect + (text(x + w / 2, y + h / 2 + 4.5, words, style=style) if words else "")
+
+
+def legend(x, y, entries):
+    """what each colour means, in a row"""
+    parts = []
+    for fill, words in entries:
+        parts += [box(x, y, 14, 14, fill), text(x + 20, y + 11.5, words, "start", "s")]
+        x += 44 + 5.7 * len(words)
+    return parts
 
 
 def arrow(path, style="", tip="tip"):
@@ -89,10 +98,8 @@ def multiframe():
         parts.append(lines(right + 14, row(f) + 16.5, words, "start"))
     low = row(16) + 14
     parts.append(text(200, low + 11.5, "to C1 to C4 of the next multiframe", "start", "s"))
-    x = 450
-    for fill, words in ((CHECK, "check bit, 0 in the division"), (WORD, "alignment word"), (SIGNAL, "multiframe signal"), (E, "E bit")):
-        parts += [box(x, low, 14, 14, fill), text(x + 20, low + 11.5, words, "start", "s")]
-        x += 44 + 5.7 * len(words)
+    colours = (CHECK, "check bit, 0 in the division"), (WORD, "alignment word"), (SIGNAL, "multiframe signal"), (E, "E bit")
+    parts += legend(450, low, colours)
     return page(right + 236, low + 30, parts)
 
 
@@ -184,6 +191,57 @@ def fold():
     return page(1104, four + 74, parts)
 
 
+def chunks():
+    """a line in three chunks: what is looked at with each, what leaves, and what is held then"""
+    left, wide, high = 244, 125, 24
+    cuts = (-0.4, 1.7, 4.7, 6.3)  # where chunks begin and end, in multiframes from the start on
+    tints = (FIRST, SECOND, FIRST)
+
+    def at(m):
+        return left + wide * m
+
+    def strip(y, a, b, fill, words="", style="s"):
+        return box(at(a), y, at(b) - at(a), high, fill, words, style)
+
+    def label(y, words):
+        return text(at(cuts[0]) - 14, y + 16.5, words, "end", "s")
+
+    parts = [label(20, "chunks"), label(84, "the joined line")]
+    parts += [strip(20, cuts[i], cuts[i + 1], tints[i], f"chunk {i + 1}", "b") for i in range(3)]
+    parts += [arrow(f"M{at(0)} 64 V82"), text(at(0) + 6, 74, "start", "start", "s"), strip(84, cuts[0], 0, "#f2f0ee")]
+    parts += [strip(84, m, min(m + 1, cuts[3]), "#fff", "multiframe 0" if m == 0 else str(m) if m < 6 else "") for m in range(7)]
+
+    def window(y, chunk):
+        """what is held with this chunk: all that came, or the last multiframe that left and what came behind it"""
+        kept, cut = (None, 3, 5)[chunk], cuts[chunk + 1]
+        if kept is None:
+            return [strip(y, cuts[0], cut, WORD)]
+        return [strip(y, kept, kept + 1, CHECK, str(kept)), strip(y, kept + 1, cut, WORD)]
+
+    for i, leaves in enumerate(((), range(4), range(4, 6))):
+        y = 144 + 108 * i
+        parts += [text(14, y + 16.5, f"with chunk {i + 1}", "start", "b")]
+        parts += [label(y, "is looked at"), label(y + 28, "leaves"), label(y + 56, "is held")]
+        parts += (window(y, i - 1) if i else []) + [strip(y, cuts[i], cuts[i + 1], tints[i], f"chunk {i + 1}")]
+        parts += [strip(y + 28, m, m + 1, E, str(m)) for m in leaves] + window(y + 56, i)
+        parts.append(f'<path d="M{at(cuts[i + 1])} 44 V{y + 56 + high + 8}" stroke-dasharray="3 2"/>')
+    parts.append(text(at(cuts[0]), 188.5, "nothing", "start", "s"))
+    parts.append(text(at((cuts[0] + cuts[1]) / 2), 216.5, "the last 2,048 octets: here all", style="s"))
+    for m, y, words in (
+        (1.8, 160.5, "no place stands yet, for lack of 16,384 bits from it on"),
+        (4.8, 282.5, "a place stands, and all that\nis whole and used leaves"),
+        (cuts[0], 376.5, "3 has left, and is kept: runs of wrong words and\nbits 2 go on from it into 4, and 4 carries the check\nof its last block"),
+    ):
+        parts.append(lines(at(m), y, words, "start"))
+
+    colours = (
+        (E, "leaves: 496 octets of payload and 16 of slot 0"),
+        (CHECK, "the last multiframe that left"),
+        (WORD, "what came behind it, or all while no place stands"),
+    )
+    return page(at(cuts[3]) + 30, 496, parts + legend(at(cuts[0]), 466, colours))
+
+
 def exchange():
     """from a host's record to the live map, and what the key does"""
     parts = [box(24, 120, 120, 56, SECOND, "host", "b")]
@@ -211,7 +269,8 @@ def main():
     check = sys.argv[1:] == ["--check"]
     if sys.argv[1:] and not check:
         sys.exit(__doc__)
-    for name, drawing in (("multiframe.svg", multiframe()), ("fold.svg", fold()), ("exchange.svg", exchange())):
+    for drawn in (multiframe, fold, chunks, exchange):
+        name, drawing = f"{drawn.__name__}.svg", drawn()
         path = os.path.join(HERE, name)
         if not check:
             with open(path, "w", encoding="utf-8") as out:
