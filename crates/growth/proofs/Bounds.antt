@@ -1,11 +1,11 @@
 -- What every image leaves of every line: no octet is lost count of, at most 2,048 are kept, what leaves is whole
 -- multiframes, and the numbers grow by no more than the octets that came.
 use Prim.Native.Nat.{ℕ, zero, suc, _+_, _-_, _*_, _/_, _%_, _≤_, _<_}
-use mathlib.Core.Path.{_≡_, refl, ap}
-use mathlib.Core.List.{List, _++_}
+use mathlib.Core.Path.{_≡_, refl}
+use mathlib.Core.List.{List}
 use mathlib.Core.Option.{Option, none, some}
 use native.Mathlib.Omega.{arith}
-use lib.ListN.{length, drop, length-append, length-drop}
+use lib.ListN.{length, drop, length-drop}
 use Rattle.align.specs.Place.{foundIn, startOf, firstStanding, firstBasic}
 use Rattle.align.specs.declared.Found.{Found}
 use Rattle.align.specs.declared.Found.the-variants.{At, BasicAt, Nothing}
@@ -17,7 +17,6 @@ use Rattle.growth.specs.declared.Line.{Line}
 use Rattle.growth.specs.Growth.{Grown, unread, keptOf, goneOf, laterBy, readOn, readFrom, noted, waits, searched, passed}
 use Rattle.growth.specs.Growth.{grownBy, grown}
 use Rattle.growth.specs.Small.{Small}
-use Rattle.growth.proofs.ReadCut.{found-reads}
 use Rattle.growth.proofs.Counts.{words-few, bits-few, far-end-few, disagreeing-few}
 
 -- of n octets, those let go and those kept
@@ -100,19 +99,6 @@ module _ (c : Line) (s : List ℕ) where
   pub grown-sizes : (length (grown c s .payload) ≡ 496 * grown c s .multiframes)
       × (length (grown c s .slot0) ≡ 16 * grown c s .multiframes)
   grown-sizes = (grown-bounded c s .payload, grown-bounded c s .slot0)
-
--- while a place stands 1,024 at most are kept
-pub reading-short : (c : Line) (p k : ℕ) → c .found ≡ At p k → c .lost ≡ 0 → (s : List ℕ) → length (grown c s .window) ≤ 1024
-reading-short c p k at z s = rw (found-reads c p k at s z) (read-short c s)
-
--- what is kept of a window and 2,048 octets or more lies in these
-pub gone-past : (c : Line) (w t : List ℕ) → 2048 ≤ length t → length w ≤ length (w ++ t) - length (grown c (w ++ t) .window)
-gone-past c w t h = omega (arith, grown-short c (w ++ t), length-append w t)
-
-pub gone-past-by : (c : Line) (w t : List ℕ) (n : ℕ) → 2048 ≤ length t → grown c (w ++ t) .window ≡ drop n (w ++ t) → length w ≤ n
-gone-past-by c w t n h e =
-    let k : length (grown c (w ++ t) .window) ≡ length (drop n (w ++ t)) = ap length e in
-    omega (arith, k, grown-short c (w ++ t), length-append w t, length-drop n (w ++ t))
 
 -- The numbers grow by no more than the octets that came
 

@@ -13,7 +13,7 @@ use Rattle.base.specs.Choice.{if_then_else_}
 use Rattle.base.proofs.TabLaws.{sum-ext}
 use Rattle.line.specs.Bit.{bitAt, field}
 use Rattle.line.proofs.SpeltLaws.{spelt-agree}
-use Rattle.e1.specs.Frame.{alignment, wrongBit, wrongBits, wordAt}
+use Rattle.e1.specs.Frame.{alignment, wrongBit, wrongBits}
 use Rattle.align.specs.Place.{mark}
 use Rattle.align.specs.Stands.{Basic, Signal, Pair, Stands}
 
@@ -51,9 +51,6 @@ module _ (s t : List ℕ) (d n : ℕ) (h : Sees s t d n) where
   word-seen a p e l =
       sum-ext 7 (λ i. if wrongBit s a i then 1 else 0) (λ i. if wrongBit t p i then 1 else 0)
       (λ i j. ap (λ b. if not (eqb b (getD alignment i 0)) then 1 else 0) (bit-seen (a + 1 + i) (p + 1 + i) (omega arith) (omega arith)))
-
-  pub word-at-seen : (a p : ℕ) → a ≡ d + p → p + 8 ≤ n → wordAt s a ≡ wordAt t p
-  word-at-seen a p e l = ap (λ x. eqb x 0) (word-seen a p e l)
 
   pub basic-seen : (a p : ℕ) → a ≡ d + p → p + 520 ≤ n → Basic s a ↔ Basic t p
   basic-seen a p e l =

@@ -140,7 +140,11 @@ module _ (st : Stream) (w t payload slot0 : List ℕ) where
                 let n : number ≡ 0 = with-room ∙ ap (λ b. if b then 4 else 0) q in
                 record {
                   its-answer =
-                      ap (λ (x : Took). record { stream = record { ended = false; fill = x .fill; line = x .line }; number = 0; multiframes = x .multiframes }) e
+                      ap (λ (x : Took). record {
+                        stream = record { ended = false; fill = x .fill; line = x .line };
+                        number = 0;
+                        multiframes = x .multiframes;
+                      }) e
                       ∙ sym (ap (λ k. accepted k (feedAccept (grownOf st w t)) (feedRefuse st k)) n);
                   its-window = h .its-window ∙ ap (λ k. accepted k (over (grownOf st w t .window) w) w) z;
                   its-payload = h .its-payload ∙ ap (λ k. accepted k (over (grownOf st w t .payload) payload) payload) z;
