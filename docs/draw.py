@@ -1,5 +1,5 @@
 #!/usr/bin/env python3
-"""Draws docs/multiframe.svg, docs/fold.svg, docs/chunks.svg and docs/exchange.svg.
+"""Draws docs/multiframe.svg, docs/fold.svg, docs/chunks.svg, docs/exchange.svg and docs/superframe.svg.
 
 docs/draw.py            writes all of them
 docs/draw.py --check    writes nothing, and fails where a file is not what would be written
@@ -265,11 +265,58 @@ def exchange():
     return page(1094, 360, parts)
 
 
+def superframe():
+    """the 24 frames of T1: what each framing bit is, where the check is carried, and the bits that may carry signalling"""
+    wide, channel, high, left, top = 74, 22, 22, 220, 66
+    octets = left + wide
+    right = octets + 24 * channel
+
+    def row(f):
+        return top + (f - 1) * high
+
+    def middle(f):
+        return row(f) + high // 2
+
+    parts = [text(left + wide / 2, 26, "framing bit", style="b"), text((octets + right) / 2, 26, "an octet for each of 24 channels", style="b")]
+    parts += [text(octets + channel * (j + 0.5), 54, j + 1, style="s") for j in range(24)]
+    parts.append(lines(right + 52, 39, "first bit\nat place", "end"))
+    for f in range(1, 25):
+        if f % 2 == 1:
+            fill, words = WORD, "data link"
+        elif f % 4 == 2:
+            fill, words = CHECK, f"C{f // 4 + 1}"
+        else:
+            fill, words = SIGNAL, "001011"[f // 4 - 1]
+        parts += [text(70, row(f) + 15.5, f"frame {f}", "end"), box(left, row(f), wide, high, fill, words)]
+        parts += [box(octets, row(f), 24 * channel, high, FIRST), text(right + 52, row(f) + 15.5, f"{193 * (f - 1):,}", "end", "s")]
+    parts += [f'<path d="M{octets + channel * j} {top} V{row(25)}" style="stroke-width:0.4"/>' for j in range(1, 24)]
+    bit = channel / 8
+    parts += [box(octets + channel * j - bit, row(f), bit, high, E) for f in (6, 12, 18, 24) for j in range(1, 25)]
+    parts.append(box(80, top, 76, 24 * high, FIRST, "superframe", "s"))
+    # from the end of a superframe down to each of the six bits that carry its check
+    parts.append(f'<path d="M188 {top - 30} V{middle(22)}"/>')
+    parts += [arrow(f"M188 {middle(f)} H{left - 2}") for f in range(2, 23, 4)]
+    parts.append(arrow(f"M156 {middle(24)} H188 V{row(25) + 22}"))
+    for f, words in (
+        (1, "twelve bits of the data link"),
+        (2, "C1 to C6 carry the check of the\nsuperframe before"),
+        (4, "0, 0, 1, 0, 1, 1 in frames 4, 8, .. 24:\nby these a superframe is found"),
+        (6, "the last bit of each octet in frames\n6, 12, 18 and 24 may carry signalling,\n96 bits in all"),
+        (10, "in the division all 24 framing bits\ncount as 1"),
+    ):
+        parts.append(lines(right + 72, row(f) + 15.5, words, "start"))
+    low = row(25) + 14
+    parts.append(text(200, low + 11.5, "to C1 to C6 of the next superframe", "start", "s"))
+    colours = (WORD, "data link"), (CHECK, "check bit"), (SIGNAL, "signal"), (E, "may carry signalling")
+    parts += legend(450, low, colours)
+    return page(right + 310, low + 30, parts)
+
+
 def main():
     check = sys.argv[1:] == ["--check"]
     if sys.argv[1:] and not check:
         sys.exit(__doc__)
-    for drawn in (multiframe, fold, chunks, exchange):
+    for drawn in (multiframe, fold, chunks, exchange, superframe):
         name, drawing = f"{drawn.__name__}.svg", drawn()
         path = os.path.join(HERE, name)
         if not check:
