@@ -8,7 +8,8 @@ use lib.Dec.{eqb, leb}
 use lib.ListN.{getD}
 use Rattle.line.specs.Bit.{bitAt}
 use Rattle.base.specs.Tab.{tab, tabFrom, sum, all, first}
-use Rattle.e1.specs.Frame.{wrongBits, firstWrong, signal}
+use Rattle.line.specs.Signal.{signal}
+use Rattle.e1.specs.Frame.{wrongBits, firstWrong}
 use Rattle.align.specs.Place.{basic, signalAt, pairAt, standing, firstStanding}
 use Rattle.align.specs.Why.{judged, whyRefusal, why}
 use Rattle.align.specs.declared.Why.the-variants.{NoneFails, FirstWord, NoPair, Refused}

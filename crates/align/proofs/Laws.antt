@@ -15,7 +15,8 @@ use Rattle.base.specs.Tab.{least}
 use Rattle.base.proofs.ChoiceLaws.{denies}
 use Rattle.base.proofs.TabLaws.{all-at, at-all, least-some, least-none, none-least, first-some, first-none, none-first}
 use Rattle.base.proofs.TabLaws.{some-first}
-use Rattle.e1.specs.Frame.{wordAt, signal}
+use Rattle.line.specs.Signal.{signal}
+use Rattle.e1.specs.Frame.{wordAt}
 use Rattle.e1.proofs.WordLaws.{word-holds}
 use Rattle.align.specs.Place.{basic, basicWithRoom, mark, signalAt, againAt, pairAt, Standing, withPlace}
 use Rattle.align.specs.Place.{standing, firstStanding, firstBasic, found, foundIn}

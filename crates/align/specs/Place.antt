@@ -9,7 +9,8 @@ use lib.ListN.{length, getD}
 use Rattle.line.specs.Bit.{bitAt}
 use Rattle.base.specs.Choice.{if_then_else_}
 use Rattle.base.specs.Tab.{all, first, least}
-use Rattle.e1.specs.Frame.{wordAt, signal}
+use Rattle.line.specs.Signal.{signal}
+use Rattle.e1.specs.Frame.{wordAt}
 use Rattle.align.specs.declared.Found.{Found}
 use Rattle.align.specs.declared.Found.the-variants.{At, BasicAt, Nothing}
 

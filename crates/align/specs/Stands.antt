@@ -4,7 +4,7 @@ use mathlib.Core.Path.{_≡_}
 use mathlib.Core.List.{List}
 use lib.ListN.{length, getD}
 use Rattle.line.specs.Bit.{bitAt, field}
-use Rattle.e1.specs.Frame.{signal}
+use Rattle.line.specs.Signal.{signal}
 use Rattle.align.specs.Place.{mark}
 
 -- basic alignment: the word in the frame at p, a 1 in bit 2 of the next frame, the word again in the one after

@@ -9,7 +9,7 @@ use mathlib.Core.Logic.{_⊎_}
 use lib.ListN.{getD}
 use Rattle.line.specs.Bit.{field}
 use Rattle.line.specs.Window.{turned, bitOf, One}
-use Rattle.e1.specs.Frame.{signal}
+use Rattle.line.specs.Signal.{signal}
 use Rattle.align.specs.Stands.{Basic, Pair, Stands}
 
 -- r has the places with P

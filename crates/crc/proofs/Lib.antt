@@ -4,5 +4,6 @@ pub mod Division
 pub mod StripedLaws
 pub mod Digits
 pub mod Order
+pub mod WordLaws
 mod FoldLaws
 mod TableLaws

@@ -1,5 +1,6 @@
-// The remainder by x^4 + x + 1, an octet at a time.
+// Remainders: by x^4 + x + 1 an octet at a time, by x^6 + x + 1 a word at a time.
 pub mod fold;
+pub mod six;
 pub mod table;
 
 ghost use mathlib.Core.Path.{_≡_};

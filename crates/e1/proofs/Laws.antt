@@ -1,11 +1,10 @@
 -- The laws of the payload's order and of blocks that the crates above cite.
 use Prim.Native.Nat.{ℕ, _+_, _*_, _≤_, _<_}
-use mathlib.Core.Path.{_≡_, refl}
+use mathlib.Core.Path.{_≡_}
 use mathlib.Core.List.{List}
 use native.Mathlib.Nat.{add-zero}
 use native.Mathlib.Omega.{arith}
-use borrow.Author.Tests.{ltb-true}
-use lib.Dec.{ltb, lit<, lit≤}
+use lib.Dec.{lit<, lit≤}
 use lib.ListN.{length, getD}
 use Rattle.line.specs.Bit.{bitAt}
 use Rattle.line.proofs.BitLaws.{bit-lt}
@@ -14,10 +13,7 @@ use Rattle.line.proofs.SpeltLaws.{Binary}
 use Rattle.crc.specs.Remainder.{Bits}
 use Rattle.crc.proofs.StripedLaws as striped
 use Rattle.e1.specs.Block.{blockBits, carried, blockCheck}
-use Rattle.e1.specs.Frame.{signal}
 use Rattle.e1.specs.Payload.{indexOf, frameOf, slotOf}
-use Rattle.base.specs.Tab.{all}
-use Rattle.base.proofs.TabLaws.{all-at}
 use Rattle.crc.proofs.Laws.{check-lt}
 
 -- the payload's order, there and back
@@ -55,8 +51,3 @@ carried-four s q = rw (add-zero q) (omega arith)
 pub block-check-lt : (s : List ℕ) (q : ℕ) → blockCheck s q < 16
 unfolding blockCheck
 block-check-lt s q = check-lt 4 (lit≤ tt) (blockBits s q) (block-bits s q)
-
--- the signal is of bits
-pub signal-lt : (h : ℕ) → h < 8 → getD signal h 0 < 2
-unfolding all
-signal-lt h l = ltb-true (getD signal h 0) 2 (all-at 8 (λ h. ltb (getD signal h 0) 2) refl h l)

@@ -37,10 +37,6 @@ wordAt s q = eqb (wrongBits s q) 0
 unfoldable pub firstWrong : List ℕ → ℕ → ℕ
 firstWrong s q = q + 1 + valueOr (least 7 (wrongBit s q)) 7
 
--- the multiframe signal: bit 1 of frames 1, 3, 5, 7, 9, 11
-abbrev pub signal : List ℕ
-signal = 0 ∷ 0 ∷ 1 ∷ 0 ∷ 1 ∷ 1 ∷ []
-
 -- slot 0 of an even frame: a check bit, then the word
 abbrev pub evenSlot0 : ℕ → ℕ
 evenSlot0 c = 128 * c + 27

@@ -71,7 +71,7 @@ moved-bit x n k m h =
 pub moved-one : (x n k l m : ℕ) → n + k ≡ l → l < m → One x n → One (x * 2 ^ k % 2 ^ m) l
 moved-one x n k l m e h o = rw (← e) (moved-bit x n k m (omega arith) ∙ o)
 
-pow-256 : (m : ℕ) → 256 ^ m ≡ 2 ^ (8 * m)
+pub pow-256 : (m : ℕ) → 256 ^ m ≡ 2 ^ (8 * m)
 pow-256 zero = refl
 pow-256 (suc m) =
     let e : 8 * suc m ≡ 8 * m + 8 = omega arith in

@@ -1,3 +1,4 @@
 pub mod Spelt
 pub mod Bit
+pub mod Signal
 pub mod Window

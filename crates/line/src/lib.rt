@@ -2,7 +2,9 @@ ghost use mathlib.Core.Path.{_≡_};
 ghost use Prim.Native.Nat.{_+_, _*_, _<_, _≤_};
 ghost use lib.ListN.{length};
 ghost use Rattle.line.specs.Bit.{bitAt, field, octetAt};
+ghost use Rattle.line.specs.Spelt.{speltOctet};
 ghost use Rattle.line.specs.Window.{lowFirst, turned};
+ghost use Rattle.base.specs.Tab.{tab};
 
 // bit o of octet i
 pub fn bit_in(s: &[u8], i: usize, o: usize) -> u8
@@ -90,4 +92,31 @@ pub fn window(s: &[u8], i: usize) -> u64
     ensures { λ r. ⌜ r ≡ field (now (s .entry)) (8 * i) 64 ⌝ }
 {
     turned(eight_octets(s, i))
+}
+
+// the eight octets that spell a number, by value: they compile to a swap and a store
+fn octets_of(n: u64) -> [u8; 8]
+    ensures { λ r. ⌜ r ≡ tab 8 (speltOctet n) ⌝ }
+{
+    [
+        ((n >> 56) % 256) as u8,
+        ((n >> 48) % 256) as u8,
+        ((n >> 40) % 256) as u8,
+        ((n >> 32) % 256) as u8,
+        ((n >> 24) % 256) as u8,
+        ((n >> 16) % 256) as u8,
+        ((n >> 8) % 256) as u8,
+        (n % 256) as u8,
+    ]
+}
+
+// writes them
+pub fn spell(n: u64, octets: &mut [u8])
+    requires { ⌜ length (now octets) ≡ 8 ⌝ }
+    ensures { λ _. ⌜ now (octets .exit) ≡ tab 8 (speltOctet n) ⌝ }
+{
+    let spelt = octets_of(n);
+    for j in 0..8 {
+        octets[j] = spelt[j];
+    }
 }

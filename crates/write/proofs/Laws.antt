@@ -20,10 +20,12 @@ use Rattle.line.specs.Spelt.{digit}
 use Rattle.line.proofs.SpeltLaws.{spelt-agree, spelt-digits}
 use Rattle.crc.specs.Remainder.{check}
 use Rattle.base.specs.Choice.{if_then_else_}
-use Rattle.e1.specs.Frame.{frameAt, slotAt, wordAt, signal, evenSlot0, oddSlot0}
+use Rattle.line.specs.Signal.{signal}
+use Rattle.e1.specs.Frame.{frameAt, slotAt, wordAt, evenSlot0, oddSlot0}
 use Rattle.e1.specs.Block.{blockCheck, carried, agrees}
 use Rattle.e1.specs.Payload.{indexOf, frameOf, slotOf}
-use Rattle.e1.proofs.Laws.{index-of, block-check-lt, signal-lt}
+use Rattle.line.proofs.SignalLaws.{signal-lt}
+use Rattle.e1.proofs.Laws.{index-of, block-check-lt}
 use Rattle.e1.proofs.WordLaws.{word-holds}
 use Rattle.crc.proofs.StripedLaws.{striped-agree}
 use Rattle.write.specs.Entry.{overheadLimit}

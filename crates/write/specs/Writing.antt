@@ -6,7 +6,8 @@ use lib.Dec.{eqb, ltb}
 use lib.ListN.{getD}
 use Rattle.base.specs.Choice.{if_then_else_}
 use Rattle.base.specs.Tab.{tab}
-use Rattle.e1.specs.Frame.{signal, evenSlot0, oddSlot0}
+use Rattle.line.specs.Signal.{signal}
+use Rattle.e1.specs.Frame.{evenSlot0, oddSlot0}
 use Rattle.e1.specs.Block.{blockCheck}
 use Rattle.e1.specs.Payload.{indexOf}
 

@@ -7,7 +7,7 @@ use borrow.Author.Needs.{needs}
 use denote.Ref.{now}
 use lib.ListN.{getD}
 use Rattle.line.specs.Bit.{bitAt}
-use Rattle.e1.specs.Frame.{signal}
+use Rattle.line.specs.Signal.{signal}
 use Rattle.align.specs.Stands.{Signal, Pair}
 use Rattle.line.specs.Window.{bitOf, One}
 use Rattle.align.specs.Window.{Marks, Signals, Pairs}

@@ -11,7 +11,7 @@ use lib.Dec.{eqb}
 use lib.ListN.{getD}
 use Rattle.base.specs.Tab.{all}
 use Rattle.base.proofs.TabLaws.{all-more, all-fails}
-use Rattle.e1.specs.Frame.{signal}
+use Rattle.line.specs.Signal.{signal}
 use Rattle.align.specs.Place.{mark, signalAt}
 use Rattle.align.proofs.signal.Statement.{statement}
 use Rattle.align.proofs.signal.Tie as tie

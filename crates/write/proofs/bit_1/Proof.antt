@@ -4,7 +4,7 @@ use borrow.Author.Needs.{needs}
 use borrow.Author.Tests.{lt-ltb, le-ltb}
 use Prim.Native.Nat.{_/_, _%_}
 use native.Mathlib.Omega.{arith}
-use Rattle.e1.proofs.Laws.{signal-lt}
+use Rattle.line.proofs.SignalLaws.{signal-lt}
 use Rattle.write.proofs.bit_1.Statement.{statement}
 use Rattle.write.proofs.bit_1.Tie as tie
 
