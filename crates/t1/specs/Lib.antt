@@ -1,0 +1,2 @@
+pub mod Superframe
+pub mod Payload

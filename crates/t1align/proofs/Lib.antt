@@ -1,0 +1,3 @@
+pub mod Laws
+mod Sets
+mod Parts
