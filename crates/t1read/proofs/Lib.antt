@@ -1,0 +1,4 @@
+pub mod EntryLaws
+mod Words
+mod Judged
+mod Answers

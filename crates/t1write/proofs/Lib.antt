@@ -1,0 +1,6 @@
+pub mod Laws
+pub mod Joins
+pub mod Signals
+pub mod Calls
+mod Words
+mod Parts

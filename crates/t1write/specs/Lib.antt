@@ -1,0 +1,3 @@
+pub mod Writing
+pub mod Entry
+pub mod Inputs
