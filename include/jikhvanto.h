@@ -1,5 +1,6 @@
 /*
- * Jikhvanto: E1 multiframes and their signalling read and written, a line in chunks, and the slot map with its key.
+ * Jikhvanto: E1 multiframes and their signalling read and written, a line in chunks, and the slot map with its key; and
+ * T1 with the extended superframe read and written.
  *
  * Every call but jk_start and jk_stream_start returns its number: JK_ACCEPTED, which is 0, or that of its refusal.
  * Where several refusals apply, it is the first in the call's list below. An answer has JK_ANSWER places: the number,
@@ -12,7 +13,7 @@
  *   - every pointer is valid for its length, and none is NULL, even where its length is 0;
  *   - a buffer that a call writes overlaps no other buffer of that call;
  *   - a call finds its stack: jk_feed takes under 11,000 octets of it; jk_read, jk_signals, jk_write and
- *     jk_write_signalled under 5,000; the others under 500.
+ *     jk_write_signalled under 5,000; jk_t1_write_signalled under 1,500; the others under 500.
  * The library holds nothing between calls, so calls on buffers of their own may run side by side.
  *
  * From one version to the next no number and no place of an answer changes its meaning, but for what is put right and
@@ -34,9 +35,9 @@
 #include <stdint.h>
 
 #define JK_VERSION_MAJOR 0
-#define JK_VERSION_MINOR 8
+#define JK_VERSION_MINOR 9
 #define JK_VERSION_PATCH 0
-#define JK_VERSION "0.8.0"
+#define JK_VERSION "0.9.0"
 
 #define JK_ANSWER 16          /* places of an answer */
 #define JK_STATE 99           /* octets of a state */
@@ -45,13 +46,15 @@
 /* The numbers. */
 enum jk_number {
     JK_ACCEPTED = 0,
-    JK_SHORT_IMAGE = 1,     /* the image, or the joined line, is under 2,048 octets */
+    JK_SHORT_IMAGE = 1,     /* the image, or the joined line, is under 2,048 octets; of T1, the image is under 1,158 */
     JK_LONG_IMAGE = 2,      /* the image is over 8,192 octets */
-    JK_NO_PLACE = 3,        /* no place with room, 16,384 bits to the end of the image, has basic alignment */
+    JK_NO_PLACE = 3,        /* no place with room, 16,384 bits to the image's end, has basic alignment; of T1, none
+                               stands */
     JK_SHORT_OUTPUT = 4,    /* an output is shorter than the call needs */
-    JK_BAD_PAYLOAD = 5,     /* the payload isn't 496n octets, n from 1 to 16 */
-    JK_BAD_OVERHEAD = 6,    /* the overhead isn't 8n octets, or one has a bit that must be 0 */
-    JK_BAD_CHECK = 7,       /* the carried check is over 15 */
+    JK_BAD_PAYLOAD = 5,     /* the payload isn't 496n octets, n from 1 to 16; of T1, 576n, n from 1 to 14 */
+    JK_BAD_OVERHEAD = 6,    /* the overhead isn't 8n octets, or one has a bit that must be 0; of T1, the data link
+                               isn't 12n octets of 0 or 1 */
+    JK_BAD_CHECK = 7,       /* the carried check is over 15; of T1, over 63 */
     JK_BAD_RECORD = 8,      /* the record isn't 4 octets */
     JK_BAD_KIND = 9,        /* the kind isn't 1 to 4 */
     JK_BAD_SLOT = 10,       /* kind 1 or 3 with a not 1 to 31, or kind 1 with b over 31 */
@@ -60,7 +63,8 @@ enum jk_number {
     JK_BAD_POSITION = 13,   /* the key's position isn't 0 or 1 */
     JK_LATE_PLACE = 14,     /* fewer than 16,384 bits from the place to the end of the image */
     JK_BASIC_ONLY = 15,     /* a place with room has basic alignment, but none stands; jk_read and jk_end say which */
-    JK_BAD_SIGNALS = 16,    /* XY isn't n octets of 0 to 15, or ABCD isn't 30n octets of 1 to 15 */
+    JK_BAD_SIGNALS = 16,    /* XY isn't n octets of 0 to 15, or ABCD isn't 30n octets of 1 to 15; of T1, the
+                               signalling isn't 96n octets of 0 or 1 */
     JK_LONG_LINE = 17,      /* with the chunk the joined line would be over 16,777,216 octets */
     JK_ENDED = 21           /* the stream has ended, or comes from no calls */
 };
@@ -100,8 +104,14 @@ enum jk_place {
     JK_K = 2,         /* JK_STANDS: the least k, 0 to 18; the first multiframe known to begin starts at the place + 512k */
     JK_BIT = 3,       /* JK_FIRST_WORD, JK_SECOND_WORD: the bit of the image that is the first wrong one of the word */
 
-    /* jk_write, jk_write_signalled */
-    JK_CHECK = 1,     /* the check of the last block, for the next call */
+    /* jk_write, jk_write_signalled, jk_t1_write, jk_t1_write_signalled */
+    JK_CHECK = 1,     /* the check of the last block, or of T1 the last superframe, for the next call */
+
+    /* jk_t1_read */
+    JK_T1_PLACE = 1,    /* the bit at which the first superframe starts */
+    JK_T1_WHOLE = 2,    /* whole superframes from there to the end of the image */
+    JK_T1_COMPARED = 3, /* superframes compared with the check bits after them: all but the last */
+    JK_T1_ERRORED = 4,  /* those of them that differ */
 
     /* jk_host */
     JK_ENTRY = 1      /* the entry that a record of kind 3 reads, 0 for any other */
@@ -231,6 +241,47 @@ uint64_t jk_write_signalled(const uint8_t *payload, size_t payload_octets,
                             const uint8_t *abcd, size_t abcd_octets,
                             uint8_t *out, size_t out_octets,
                             uint64_t answer[JK_ANSWER]);
+
+/*
+ * T1 with the extended superframe: 24 frames of 193 bits, a framing bit and the octets of channels 1 to 24. No call
+ * of it takes a stream or a state.
+ *
+ * jk_t1_read reads an image of 1,158 to 8,192 octets, its bits as those of jk_read, from the first place that stands:
+ * two whole superframes follow it, and the second carries the check of the first. payload takes the octets of the
+ * channels, 576 a superframe, and link the data link, 12 octets of 0 or 1 a superframe: 8,064 and 168 always do.
+ * answer: JK_T1_PLACE to JK_T1_ERRORED
+ * Refused: 1 JK_SHORT_IMAGE, 2 JK_LONG_IMAGE, 3 JK_NO_PLACE, 4 JK_SHORT_OUTPUT
+ */
+uint64_t jk_t1_read(const uint8_t *image, size_t image_octets,
+                    uint8_t *payload, size_t payload_octets,
+                    uint8_t *link, size_t link_octets,
+                    uint64_t answer[JK_ANSWER]);
+
+/*
+ * Writes n superframes, n from 1 to 14, from a payload of 576n octets and 12n octets of the data link, each 0 or 1, to
+ * 579n octets of out. check is that of the superframe before, 0 to 63.
+ * answer: JK_CHECK
+ * Refused: 5 JK_BAD_PAYLOAD, 6 JK_BAD_OVERHEAD, 7 JK_BAD_CHECK, 4 JK_SHORT_OUTPUT
+ */
+uint64_t jk_t1_write(const uint8_t *payload, size_t payload_octets,
+                     const uint8_t *link, size_t link_octets,
+                     uint64_t check,
+                     uint8_t *out, size_t out_octets,
+                     uint64_t answer[JK_ANSWER]);
+
+/*
+ * Writes as jk_t1_write does, but the last bits of the octets in frames 6, 12, 18 and 24 of each superframe from 96n
+ * octets of signalling, each 0 or 1, in the order of the line: frame 6 first, in each frame from channel 1 to 24. What
+ * the payload has in these bits goes nowhere.
+ * answer: JK_CHECK
+ * Refused: 5 JK_BAD_PAYLOAD, 6 JK_BAD_OVERHEAD, 7 JK_BAD_CHECK, 16 JK_BAD_SIGNALS, 4 JK_SHORT_OUTPUT
+ */
+uint64_t jk_t1_write_signalled(const uint8_t *payload, size_t payload_octets,
+                               const uint8_t *link, size_t link_octets,
+                               uint64_t check,
+                               const uint8_t *signalling, size_t signalling_octets,
+                               uint8_t *out, size_t out_octets,
+                               uint64_t answer[JK_ANSWER]);
 
 /*
  * The state of the map and the key, in octets that you lend: the flag; whether a map is staged; whether one waits; then

@@ -442,6 +442,118 @@ static void asking(void)
     EXPECT(said(2048, 0, JK_NO_PAIR, 0, 0));
 }
 
+/* T superframes of T1 from the front of the payload: their data link, their signalling, and the line. */
+enum { T = 3 };
+static uint8_t data_link[T * 12], signals[T * 96], t1_line[T * 579 + 1], bits[T * 12 + 1];
+
+static void t1_unwritten(void)
+{
+    memset(t1_line, BEFORE, sizeof t1_line);
+    REFUSED(jk_t1_write(payload, 575, data_link, 11, 64, t1_line, 0, answer), JK_BAD_PAYLOAD);
+    REFUSED(jk_t1_write(payload, 576, data_link, 11, 64, t1_line, 0, answer), JK_BAD_OVERHEAD);
+    REFUSED(jk_t1_write(payload, 576, data_link, 12, 64, t1_line, 0, answer), JK_BAD_CHECK);
+    REFUSED(jk_t1_write(payload, 576, data_link, 12, 63, t1_line, 578, answer), JK_SHORT_OUTPUT);
+    REFUSED(jk_t1_write_signalled(payload, 575, data_link, 11, 64, signals, 95, t1_line, 0, answer), JK_BAD_PAYLOAD);
+    REFUSED(jk_t1_write_signalled(payload, 576, data_link, 11, 64, signals, 95, t1_line, 0, answer), JK_BAD_OVERHEAD);
+    REFUSED(jk_t1_write_signalled(payload, 576, data_link, 12, 64, signals, 95, t1_line, 0, answer), JK_BAD_CHECK);
+    REFUSED(jk_t1_write_signalled(payload, 576, data_link, 12, 63, signals, 95, t1_line, 0, answer), JK_BAD_SIGNALS);
+    REFUSED(jk_t1_write_signalled(payload, 576, data_link, 12, 63, signals, 96, t1_line, 578, answer), JK_SHORT_OUTPUT);
+    data_link[11] = signals[95] = 2;
+    REFUSED(jk_t1_write(payload, 576, data_link, 12, 0, t1_line, 579, answer), JK_BAD_OVERHEAD);
+    data_link[11] = 1;
+    REFUSED(jk_t1_write_signalled(payload, 576, data_link, 12, 0, signals, 96, t1_line, 579, answer), JK_BAD_SIGNALS);
+    signals[95] = 1;
+    EXPECT(untouched(t1_line, sizeof t1_line));
+}
+
+/* Whether these octets are read as T1, with this answer to the last of its places, and no more is filled. */
+static int t1_reads(const uint8_t *line, size_t octets, const uint64_t expected[JK_ANSWER])
+{
+    size_t whole = (size_t)expected[JK_T1_WHOLE];
+
+    memset(answer, BEFORE, sizeof answer);
+    memset(back, BEFORE, sizeof back);
+    memset(bits, BEFORE, sizeof bits);
+    return jk_t1_read(line, octets, back, sizeof back, bits, sizeof bits, answer) == JK_ACCEPTED
+        && !memcmp(answer, expected, sizeof answer)
+        && untouched(back + whole * 576, sizeof back - whole * 576)
+        && untouched(bits + whole * 12, sizeof bits - whole * 12);
+}
+
+static void t1_reading(void)
+{
+    static const uint64_t clean[JK_ANSWER] = {JK_ACCEPTED, 0, T, T - 1, 0};
+    static const uint64_t later[JK_ANSWER] = {JK_ACCEPTED, 1, T, T - 1, 0};
+    static const uint64_t errored[JK_ANSWER] = {JK_ACCEPTED, 0, T, T - 1, 1};
+    static const uint64_t second[JK_ANSWER] = {JK_ACCEPTED, 8 * 579, T - 1, T - 2, 0};
+    static const uint8_t zeros[1158] = {0};
+    static uint8_t late[T * 579 + 1];
+    size_t i;
+
+    memset(back, BEFORE, sizeof back);
+    memset(bits, BEFORE, sizeof bits);
+    REFUSED(jk_t1_read(t1_line, 1157, back, 0, bits, 0, answer), JK_SHORT_IMAGE);
+    REFUSED(jk_t1_read(image, 8193, back, 0, bits, 0, answer), JK_LONG_IMAGE);
+    REFUSED(jk_t1_read(zeros, 1158, back, 0, bits, 0, answer), JK_NO_PLACE);
+    REFUSED(jk_t1_read(t1_line, T * 579, back, T * 576 - 1, bits, T * 12, answer), JK_SHORT_OUTPUT);
+    REFUSED(jk_t1_read(t1_line, T * 579, back, T * 576, bits, T * 12 - 1, answer), JK_SHORT_OUTPUT);
+    EXPECT(untouched(back, sizeof back) && untouched(bits, sizeof bits));
+
+    /* from bit 0 on; behind one more bit; and with a bit of the second superframe hit, and of the first */
+    EXPECT(t1_reads(t1_line, T * 579, clean));
+    EXPECT(!memcmp(back, payload, T * 576) && !memcmp(bits, data_link, T * 12));
+    for (i = 0; i < T * 579; i++) {
+        late[i] |= t1_line[i] >> 1;
+        late[i + 1] = (uint8_t)(t1_line[i] << 7);
+    }
+    EXPECT(t1_reads(late, sizeof late, later) && answer[JK_T1_PLACE] == 1);
+    EXPECT(!memcmp(back, payload, T * 576) && !memcmp(bits, data_link, T * 12));
+    t1_line[579 + 300] ^= 0x01;
+    EXPECT(t1_reads(t1_line, T * 579, errored) && answer[JK_T1_COMPARED] == T - 1 && answer[JK_T1_ERRORED] == 1);
+    t1_line[579 + 300] ^= 0x01;
+    t1_line[300] ^= 0x01;
+    EXPECT(t1_reads(t1_line, T * 579, second) && !memcmp(back, payload + 576, (T - 1) * 576));
+}
+
+static void t1(void)
+{
+    static uint8_t plain[T * 579];
+    size_t i;
+    uint64_t check;
+
+    for (i = 0; i < sizeof data_link; i++)
+        data_link[i] = i % 3 == 2;
+    for (i = 0; i < sizeof signals; i++)
+        signals[i] = i % 5 == 0;
+    t1_unwritten();
+
+    /* one superframe, its check handed on, and the rest; then all at once */
+    EXPECT(jk_t1_write(payload, 576, data_link, 12, 63, t1_line, sizeof t1_line, answer) == JK_ACCEPTED);
+    EXPECT(untouched(t1_line + 579, sizeof t1_line - 579));
+    check = answer[JK_CHECK];
+    EXPECT(jk_t1_write(payload + 576, (T - 1) * 576, data_link + 12, (T - 1) * 12, check,
+                       t1_line + 579, (T - 1) * 579, answer) == JK_ACCEPTED);
+    check = answer[JK_CHECK];
+    EXPECT(untouched(t1_line + T * 579, 1));
+    ANSWERED(jk_t1_write(payload, T * 576, data_link, T * 12, 63, plain, sizeof plain, answer), JK_ACCEPTED, check);
+    EXPECT(!memcmp(t1_line, plain, sizeof plain));
+    t1_reading();
+
+    /* what is written with signalling is the payload with these bits replaced, whatever it had there */
+    EXPECT(jk_t1_write_signalled(payload, T * 576, data_link, T * 12, 5, signals, T * 96,
+                                 t1_line, sizeof t1_line, answer) == JK_ACCEPTED);
+    check = answer[JK_CHECK];
+    EXPECT(untouched(t1_line + T * 579, 1));
+    memcpy(back, payload, T * 576);
+    for (i = 0; i < T * 96; i++) {
+        uint8_t *octet = back + i / 24 * 144 + 5 * 24 + i % 24;
+
+        *octet = (uint8_t)((*octet & 0xFE) | signals[i]);
+    }
+    ANSWERED(jk_t1_write(back, T * 576, data_link, T * 12, 5, plain, sizeof plain, answer), JK_ACCEPTED, check);
+    EXPECT(!memcmp(t1_line, plain, sizeof plain));
+}
+
 static void map_and_key(void)
 {
     static const uint8_t stage[4] = {JK_KIND_STAGE, 5, 9, 0}, commit[4] = {JK_KIND_COMMIT, 0, 0, 0};
@@ -485,6 +597,7 @@ int main(void)
     streaming();
     signalling();
     asking();
+    t1();
     map_and_key();
     if (!failed)
         printf("ok\n");

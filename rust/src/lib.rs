@@ -6,6 +6,7 @@ mod signalling;
 mod state;
 mod stream;
 pub mod sys;
+pub mod t1;
 mod why;
 
 pub use refusal::Refusal;

@@ -6,20 +6,23 @@ use std::fmt;
 #[derive(Clone, Copy, Debug, PartialEq, Eq, Hash)]
 #[non_exhaustive]
 pub enum Refusal {
-    /// The image, or the joined line, is under 2,048 octets.
+    /// The image, or the joined line, is under 2,048 octets; of T1, the image
+    /// is under 1,158.
     ShortImage,
     /// The image is over 8,192 octets.
     LongImage,
     /// No place with room, 16,384 bits to the end of the image, has basic
-    /// alignment: no frames are found.
+    /// alignment: no frames are found. Of T1, no place stands.
     NoPlace,
     /// An output is shorter than the call needs.
     ShortOutput,
-    /// The payload isn't 496n octets, n from 1 to 16.
+    /// The payload isn't 496n octets, n from 1 to 16; of T1, 576n octets, n
+    /// from 1 to 14.
     BadPayload,
-    /// The overhead isn't 8n octets, or one has a bit that must be 0.
+    /// The overhead isn't 8n octets, or one has a bit that must be 0; of T1,
+    /// the data link isn't 12n octets of 0 or 1.
     BadOverhead,
-    /// The carried check is over 15.
+    /// The carried check is over 15; of T1, over 63.
     BadCheck,
     /// The record isn't 4 octets.
     BadRecord,
@@ -42,7 +45,8 @@ pub enum Refusal {
         /// [`why`](crate::why()) says [`NoPair`](crate::Why::NoPair).
         place: usize,
     },
-    /// XY isn't n octets of 0 to 15, or ABCD isn't 30n octets of 1 to 15.
+    /// XY isn't n octets of 0 to 15, or ABCD isn't 30n octets of 1 to 15; of
+    /// T1, the signalling isn't 96n octets of 0 or 1.
     BadSignals,
     /// With the chunk the joined line would be over 16,777,216 octets.
     LongLine,
@@ -117,13 +121,20 @@ impl Refusal {
 impl fmt::Display for Refusal {
     fn fmt(&self, f: &mut fmt::Formatter) -> fmt::Result {
         f.write_str(match self {
-            ShortImage => "the image, or the joined line, is under 2,048 octets",
+            ShortImage => {
+                "the image, or the joined line, is under 2,048 octets; of T1, under 1,158"
+            }
             LongImage => "the image is over 8,192 octets",
-            NoPlace => "no place with room has basic alignment",
+            NoPlace => "no place with room has basic alignment; of T1, no place stands",
             ShortOutput => "an output is shorter than the call needs",
-            BadPayload => "the payload isn't 496n octets, n from 1 to 16",
-            BadOverhead => "the overhead isn't 8n octets, or one has a bit that must be 0",
-            BadCheck => "the carried check is over 15",
+            BadPayload => {
+                "the payload isn't 496n octets, n from 1 to 16; of T1, 576n, n from 1 to 14"
+            }
+            BadOverhead => {
+                "the overhead isn't 8n octets, or one has a bit that must be 0; \
+                 of T1, the data link isn't 12n octets of 0 or 1"
+            }
+            BadCheck => "the carried check is over 15; of T1, over 63",
             BadRecord => "the record isn't 4 octets",
             BadKind => "the kind isn't 1 to 4",
             BadSlot => "the output slot isn't 1 to 31, or the input slot is over 31",
@@ -134,7 +145,10 @@ impl fmt::Display for Refusal {
             BasicOnly { place } => {
                 return write!(f, "place {place} has basic alignment, but no place stands");
             }
-            BadSignals => "XY isn't n octets of 0 to 15, or ABCD isn't 30n octets of 1 to 15",
+            BadSignals => {
+                "XY isn't n octets of 0 to 15, or ABCD isn't 30n octets of 1 to 15; \
+                 of T1, the signalling isn't 96n octets of 0 or 1"
+            }
             LongLine => "with the chunk the joined line would be over 16,777,216 octets",
             Ended => "the stream has ended",
         })

@@ -69,6 +69,37 @@ extern "C" {
         out_octets: usize,
         answer: *mut [u64; ANSWER],
     ) -> u64;
+    pub fn jk_t1_read(
+        image: *const u8,
+        image_octets: usize,
+        payload: *mut u8,
+        payload_octets: usize,
+        link: *mut u8,
+        link_octets: usize,
+        answer: *mut [u64; ANSWER],
+    ) -> u64;
+    pub fn jk_t1_write(
+        payload: *const u8,
+        payload_octets: usize,
+        link: *const u8,
+        link_octets: usize,
+        check: u64,
+        out: *mut u8,
+        out_octets: usize,
+        answer: *mut [u64; ANSWER],
+    ) -> u64;
+    pub fn jk_t1_write_signalled(
+        payload: *const u8,
+        payload_octets: usize,
+        link: *const u8,
+        link_octets: usize,
+        check: u64,
+        signalling: *const u8,
+        signalling_octets: usize,
+        out: *mut u8,
+        out_octets: usize,
+        answer: *mut [u64; ANSWER],
+    ) -> u64;
     pub fn jk_start(state: *mut [u8; STATE]);
     pub fn jk_host(
         state: *mut [u8; STATE],

@@ -1,4 +1,5 @@
 pub mod Laws
+pub mod T1Laws
 pub mod StreamLaws
 pub mod StreamBack
 pub mod RunLaws

@@ -26,8 +26,9 @@ use Rattle.growth.proofs.Bounds.{grown-small, grown-short, start-within}
 use Rattle.stream.specs.Entry.{starting, isLarge, isFar, isOver, grownOf, feedAccept}
 use Rattle.stream.specs.declared.Stream.{Stream}
 use Rattle.stream.proofs.EntryLaws.{sound}
+use Rattle.line.specs.Spelt.{speltOctet}
 use Rattle.jikhvanto.specs.Stream.{numberAt, foundBy, streamOf, windowOf, foundNumber, kOf, streamNumbers}
-use Rattle.jikhvanto.specs.Stream.{speltOctet, speltNumbers, octetsOfStream}
+use Rattle.jikhvanto.specs.Stream.{speltNumbers, octetsOfStream}
 use Rattle.jikhvanto.proofs.Laws.{flag-back}
 use Rattle.jikhvanto.proofs.StreamLaws.{number-from, speltAt, spelt-length, window-behind}
 

@@ -15,7 +15,8 @@ use Rattle.stream.specs.Entry.{Feeds, ending}
 use Rattle.stream.specs.declared.Ended.{Ended}
 use Rattle.stream.specs.declared.Fed.{Fed}
 use Rattle.stream.specs.declared.Stream.{Stream}
-use Rattle.jikhvanto.specs.Stream.{numberAt, streamOf, windowOf, streamNumbers, speltOctet, speltNumbers}
+use Rattle.line.specs.Spelt.{speltOctet}
+use Rattle.jikhvanto.specs.Stream.{numberAt, streamOf, windowOf, streamNumbers, speltNumbers}
 use Rattle.jikhvanto.specs.Stream.{octetsOfStream, feedingOf, feedStored, endStored}
 use Rattle.jikhvanto.specs.Octets.{pairPlaces, readingPlaces}
 use Rattle.jikhvanto.specs.Calls.{JkFeed, JkEnd}

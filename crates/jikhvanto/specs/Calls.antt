@@ -10,10 +10,14 @@ use Rattle.stream.specs.Entry.{Feeds, ending}
 use Rattle.write.specs.Entry.{Wrote, writing}
 use Rattle.signals.specs.Entry.{Signalled, signalling}
 use Rattle.signalled.specs.Entry as signalled
+use Rattle.t1read.specs.Entry as t1read
+use Rattle.t1write.specs.Entry as t1write
+use Rattle.t1write.specs.Writing.{withSignals}
+use Rattle.t1write.specs.declared.Written.{Written}
 use Rattle.exchange.specs.Mapping.{Mapped}
 use Rattle.exchange.specs.Machine.{startState, hosted, keyed, crossed}
 use Rattle.jikhvanto.specs.Octets.{stateOf, octetsOf, stored, hostStored, readingPlaces, whyPlaces}
-use Rattle.jikhvanto.specs.Octets.{signallingPlaces, pairPlaces}
+use Rattle.jikhvanto.specs.Octets.{signallingPlaces, t1ReadingPlaces, pairPlaces}
 use Rattle.jikhvanto.specs.Stream.{streamOf, windowOf, feedingOf, feedStored, endStored}
 
 pub record JkRead (image payload slot0 : List ℕ) (r : ℕ) (payload' slot0' answer' : List ℕ) : Type 0 where
@@ -57,6 +61,32 @@ pub record JkWriteSignalled (payload overhead : List ℕ) (check : ℕ) (xy abcd
       signalled.Wrote payload overhead check xy abcd out w out'
   pub its-number : r ≡ signalled.writing payload overhead check xy abcd (length out) .number
   pub its-answer : answer' ≡ pairPlaces r (signalled.writing payload overhead check xy abcd (length out) .check)
+
+pub record JkT1Read (image payload link : List ℕ) (r : ℕ) (payload' link' answer' : List ℕ) : Type 0 where
+  pub its-outputs : let t = t1read.reading image (length payload) (length link) in
+      t1read.Read image payload link t payload' link'
+  pub its-number : r ≡ t1read.reading image (length payload) (length link) .number
+  pub its-answer : answer' ≡ t1ReadingPlaces (t1read.reading image (length payload) (length link))
+
+-- what the calls that write T1 answer: with signalling g, of the payload with these bits in it
+
+abbrev pub t1Writing : List ℕ → List ℕ → ℕ → ℕ → Written
+t1Writing p l c m = t1write.writing (t1write.refusal p l c m) p c
+
+abbrev pub t1SignalledWriting : List ℕ → List ℕ → ℕ → List ℕ → ℕ → Written
+t1SignalledWriting p l c g m = t1write.writing (t1write.signalledRefusal p l c g m) (withSignals p g) c
+
+pub record JkT1Write (payload link : List ℕ) (check : ℕ) (out : List ℕ) (r : ℕ) (out' answer' : List ℕ) : Type 0 where
+  pub its-output : t1write.Wrote payload link check out (t1Writing payload link check (length out)) out'
+  pub its-number : r ≡ t1Writing payload link check (length out) .number
+  pub its-answer : answer' ≡ pairPlaces r (t1Writing payload link check (length out) .check)
+
+pub record JkT1WriteSignalled (payload link : List ℕ) (check : ℕ) (signalling out : List ℕ) (r : ℕ)
+    (out' answer' : List ℕ) : Type 0 where
+  pub its-output : let w = t1SignalledWriting payload link check signalling (length out) in
+      t1write.WroteSignalled payload link check signalling out w out'
+  pub its-number : r ≡ t1SignalledWriting payload link check signalling (length out) .number
+  pub its-answer : answer' ≡ pairPlaces r (t1SignalledWriting payload link check signalling (length out) .check)
 
 pub record JkStart (state' : List ℕ) : Type 0 where
   pub its-state : state' ≡ octetsOf startState

@@ -13,6 +13,7 @@ use Rattle.exchange.specs.declared.State.{State}
 use Rattle.exchange.specs.declared.Answered.{Answered}
 use Rattle.read.specs.declared.Reading.{Reading}
 use Rattle.signals.specs.declared.Signalling.{Signalling}
+use Rattle.t1read.specs.declared.Reading as t1read
 
 -- the 32 octets of a map
 unfoldable pub mapAt : ℕ → List ℕ → List ℕ
@@ -66,6 +67,10 @@ signallingPlaces r =
 -- what is said of a place
 unfoldable pub whyPlaces : Why → List ℕ
 whyPlaces w = answerOf (whyValues w)
+
+-- a reading of T1
+unfoldable pub t1ReadingPlaces : t1read.Reading → List ℕ
+t1ReadingPlaces r = answerOf (r .number ∷ r .place ∷ r .whole ∷ r .compared ∷ r .errored ∷ [])
 
 -- number and value to places 0 and 1: a check that was written, or an entry that a host record reads
 unfoldable pub pairPlaces : ℕ → ℕ → List ℕ

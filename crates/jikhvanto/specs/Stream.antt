@@ -1,6 +1,6 @@
 -- A stream as 2,144 octets (KIT §10): twelve numbers of 64 bits, each spelt by eight octets, the highest first, and
 -- then the window.
-use Prim.Native.Nat.{ℕ, _-_, _*_, _/_, _%_, _^_}
+use Prim.Native.Nat.{ℕ, _*_, _/_, _%_}
 use mathlib.Core.List.{List, [], _∷_, _++_}
 use lib.Dec.{eqb}
 use lib.ListN.{getD, drop}
@@ -9,6 +9,7 @@ use Rattle.base.specs.Choice.{if_then_else_}
 use Rattle.base.specs.Answer.{accepted}
 use Rattle.base.specs.Tab.{tab}
 use Rattle.line.specs.Bit.{field}
+use Rattle.line.specs.Spelt.{speltOctet}
 use Rattle.align.specs.Place.{placeOf}
 use Rattle.align.specs.declared.Found.{Found}
 use Rattle.align.specs.declared.Found.the-variants.{At, BasicAt, Nothing}
@@ -63,10 +64,6 @@ streamNumbers st =
     let c = st .line in
     boolByte (st .ended) ∷ st .fill ∷ c .before ∷ foundNumber (c .found) ∷ placeOf (c .found) ∷ kOf (c .found)
     ∷ c .used ∷ c .lost ∷ c .words ∷ c .errored ∷ c .farend ∷ c .wordbits ∷ []
-
--- octet j of the eight that spell a number
-abbrev pub speltOctet : ℕ → ℕ → ℕ
-speltOctet n j = n / 256 ^ (7 - j) % 256
 
 -- the octets that spell twelve numbers
 unfoldable pub speltNumbers : List ℕ → List ℕ

@@ -1,10 +1,11 @@
 // The C interface: each entry of the kit, over a state in lent octets and an answer in lent places.
+pub mod t1;
+
 ghost use mathlib.Core.Path.{_≡_};
 ghost use mathlib.Core.List.{[], _∷_, _++_};
 ghost use Prim.Native.Nat.{_+_, _≤_, _<_};
 ghost use lib.ListN.{length, drop};
 ghost use lib.Dec.{eqb};
-ghost use Rattle.base.specs.Tab.{tab};
 ghost use Rattle.align.specs.Place.{placeOf};
 ghost use Rattle.align.specs.Why.{whyNumber};
 ghost use Rattle.stream.specs.Entry.{Feeds};
@@ -12,7 +13,7 @@ ghost use Rattle.exchange.specs.Machine.{kindOf};
 ghost use Rattle.jikhvanto.specs.Octets.{mapAt, stateOf, octetsOf, stored, readingPlaces, whyPlaces};
 ghost use Rattle.jikhvanto.specs.Octets.{signallingPlaces, answerOf, pairPlaces};
 ghost use Rattle.jikhvanto.specs.Stream.{numberAt, foundBy, streamOf, foundNumber, kOf, streamNumbers};
-ghost use Rattle.jikhvanto.specs.Stream.{windowOf, speltOctet, speltNumbers, feedStored};
+ghost use Rattle.jikhvanto.specs.Stream.{windowOf, speltNumbers, feedStored};
 ghost use Rattle.jikhvanto.specs.Calls.{JkRead, JkStreamStart, JkFeed, JkEnd};
 ghost use Rattle.jikhvanto.specs.Calls.{JkSignals, JkWhy, JkWrite, JkWriteSignalled};
 ghost use Rattle.jikhvanto.specs.Calls.{JkStart, JkHost, JkKey, JkBoundary, JkMap};
@@ -212,33 +213,6 @@ fn stream_numbers(stream: Stream) -> [u64; 12]
     ]
 }
 
-// the eight octets that spell a number, by value: they compile to a swap and a store
-fn octets_of(n: u64) -> [u8; 8]
-    ensures { λ r. ⌜ r ≡ tab 8 (speltOctet n) ⌝ }
-{
-    [
-        ((n >> 56) % 256) as u8,
-        ((n >> 48) % 256) as u8,
-        ((n >> 40) % 256) as u8,
-        ((n >> 32) % 256) as u8,
-        ((n >> 24) % 256) as u8,
-        ((n >> 16) % 256) as u8,
-        ((n >> 8) % 256) as u8,
-        (n % 256) as u8,
-    ]
-}
-
-// writes them
-fn spell(n: u64, octets: &mut [u8])
-    requires { ⌜ length (now octets) ≡ 8 ⌝ }
-    ensures { λ _. ⌜ now (octets .exit) ≡ tab 8 (speltOctet n) ⌝ }
-{
-    let spelt = octets_of(n);
-    for j in 0..8 {
-        octets[j] = spelt[j];
-    }
-}
-
 // the numbers of a stream, to the front of its octets
 fn store_numbers(stream: Stream, octets: &mut [u8])
     requires { ⌜ length (now octets) ≡ 2144 ⌝ }
@@ -247,7 +221,7 @@ fn store_numbers(stream: Stream, octets: &mut [u8])
     let numbers = stream_numbers(stream);
     for i in 0..12 {
         let a = 8 * i;
-        spell(numbers[i], &mut octets[a..a + 8]);
+        line::spell(numbers[i], &mut octets[a..a + 8]);
     }
 }
 
