@@ -41,6 +41,7 @@ use Rattle.exchange.specs.declared.State.{State}
 use Rattle.exchange.specs.Mapping.{mapRefusal, mapRefusals}
 use Rattle.exchange.specs.Machine.{kindOf, aOf, bOf, outside, locked, unstaged, hostRefusal, keyRefusal, keyRefusals}
 use Rattle.exchange.proofs.Laws.{accepted-passed, kind-named, slot-named, entry-named, reads-alone, within}
+use Rattle.claims.proofs.T1Accepts as t1
 use Rattle.claims.specs.Accepts.{ToRead, Going, ToFeed, ToEnd, ToHear, ToAsk, ToWrite, ToSignal, ToHost, ToMap, Accepts}
 
 -- which lengths a payload may have
@@ -390,4 +391,7 @@ accepts =
       host = host-is;
       key = key-is;
       map = map-is;
+      t1-read = t1.read-is;
+      t1-write = t1.write-is;
+      t1-write-signalled = λ p l c g m. t1.signal-is p l c m g;
     }

@@ -70,7 +70,7 @@ module _ {n k : ℕ} {P : ℕ → Type 0} (c : Counted n k P) where
       all b h p = elim (ℕ-discrete b n) [ yes e ↦ absurd (lacks (rw e at p)) | no e ↦ c .all b (omega arith) p ]
 
   -- the same by another name
-  named : {Q : ℕ → Type 0} → ((i : ℕ) → P i ↔ Q i) → Counted n k Q
+  pub named : {Q : ℕ → Type 0} → ((i : ℕ) → P i ↔ Q i) → Counted n k Q
   named w =
       record {
         at = c .at;
@@ -80,7 +80,7 @@ module _ {n k : ℕ} {P : ℕ → Type 0} (c : Counted n k P) where
       }
 
   -- it counts to 0 exactly where none has it
-  none-has : k ≡ 0 ↔ ((b : ℕ) → b < n → P b → ⊥)
+  pub none-has : k ≡ 0 ↔ ((b : ℕ) → b < n → P b → ⊥)
   none-has = (λ z b h p. let (i, l, e) = c .all b h p in omega arith, λ none. go none (ℕ-discrete k 0))
     where
       go : ((b : ℕ) → b < n → P b → ⊥) → Dec (k ≡ 0) → k ≡ 0
@@ -88,7 +88,7 @@ module _ {n k : ℕ} {P : ℕ → Type 0} (c : Counted n k P) where
       go none (no z) = let (l, p) = c .each 0 (omega arith) in absurd (none (c .at 0) l p)
 
 -- what passes a test
-counted : (n : ℕ) (t : ℕ → Bool) → Counted n (count n t) (λ i. t i ≡ true)
+pub counted : (n : ℕ) (t : ℕ → Bool) → Counted n (count n t) (λ i. t i ≡ true)
 unfolding sum
 counted zero t =
     record {
@@ -106,7 +106,7 @@ counted (suc n) t = go (counted n t) (t n) refl
 
 -- The counts of g multiframes from q on
 
-not-equal : (a b : ℕ) → not (eqb a b) ≡ true ↔ (a ≢ b)
+pub not-equal : (a b : ℕ) → not (eqb a b) ≡ true ↔ (a ≢ b)
 not-equal a b = (λ e z. true≢false (sym e ∙ ap not (eq-eqb a b z)), λ n. ap not (ne-eqb a b n))
 
 -- one zero where the bit is 0, none where it is 1

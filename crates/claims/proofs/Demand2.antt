@@ -13,7 +13,8 @@ use lib.Seq.{take-at}
 use Rattle.line.specs.Bit.{bitAt, octetAt}
 use Rattle.base.proofs.TabLaws.{tab-agree, sum-ext}
 use Rattle.base.proofs.AnswerLaws.{accepted-so}
-use Rattle.e1.specs.Frame.{frameAt, slotAt, signal}
+use Rattle.line.specs.Signal.{signal}
+use Rattle.e1.specs.Frame.{frameAt, slotAt}
 use Rattle.e1.proofs.WordLaws.{word-holds}
 use Rattle.e1.specs.Payload.{indexOf, multiframes}
 use Rattle.align.specs.Place.{firstBasic, foundIn, placeOf}

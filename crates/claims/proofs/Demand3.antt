@@ -26,11 +26,11 @@ use Rattle.claims.proofs.Counts.{counts}
 use Rattle.claims.specs.Demand3.{Agreeing, Aligned, CheckOfFirst, DataOfLast, Demand3, OnlyWithin, ReadClean}
 use Rattle.claims.specs.Demand3.{Unseen, zerosBut}
 
-zero-bit : (m : ℕ) → 0 / m % 2 ≡ 0
+pub zero-bit : (m : ℕ) → 0 / m % 2 ≡ 0
 zero-bit m = ap (λ x. x % 2) (zero-div m)
 
 -- past the end of an image every bit is 0
-past : (s : List ℕ) (p n : ℕ) → length s ≡ 512 * n → 4096 * n ≤ p → bitAt s p ≡ 0
+pub past : (s : List ℕ) (p n : ℕ) → length s ≡ n → 8 * n ≤ p → bitAt s p ≡ 0
 unfolding bitAt
 past s p n l h =
     let e : getD s (p / 8) 0 ≡ 0 = List·getD-eq-default s 0 (omega arith) in rw e (zero-bit (2 ^ (7 - p % 8)))
@@ -71,7 +71,7 @@ burst n s t whole-s whole-t agree-s agree-t a only p ne = go (decLt p (4096 * n)
 
     go : Dec (p < 4096 * n) → Dec (p % 512 ≡ 0) → CheckOfFirst p ⊎ DataOfLast n p
     go (no h) z =
-        absurd (ne (past s p n (whole-s .whole) (omega arith) ∙ sym (past t p n (whole-t .whole) (omega arith))))
+        absurd (ne (past s p (512 * n) (whole-s .whole) (omega arith) ∙ sym (past t p (512 * n) (whole-t .whole) (omega arith))))
     go (yes l) (yes z) = elim (decLt p 2048) [ yes h ↦ inl (h, z) | no h ↦ absurd (ne (later (omega arith) l z)) ]
     go (yes l) (no z) = elim (decLt (b + 1) (2 * n)) [
       | yes h ↦ absurd (ne (sooner h z))
@@ -102,7 +102,7 @@ zerosBut-bit i x p z = go (decLt p 4096) (ℕ-discrete (p / 8) i)
     at h = getD-tab 512 (λ j. if eqb j i then x else 0) (p / 8) 0 (omega arith)
 
     go : Dec (p < 4096) → Dec (p / 8 ≡ i) → bitAt (zerosBut i x) p ≡ 0
-    go (no h) d = past (zerosBut i x) p 1 (zerosBut-length i x) (omega arith)
+    go (no h) d = past (zerosBut i x) p 512 (zerosBut-length i x) (omega arith)
     go (yes h) (yes e) = rw (at h, eq-eqb (p / 8) i e) (z e)
     go (yes h) (no e) = rw (at h, ne-eqb (p / 8) i e) (zero-bit (2 ^ (7 - p % 8)))
 

@@ -12,7 +12,8 @@ use lib.ListN.{length, getD}
 use Rattle.line.specs.Bit.{bitAt}
 use Rattle.base.specs.Tab.{first, least}
 use Rattle.base.proofs.TabLaws.{some-first, some-least, at-all, sum-none}
-use Rattle.e1.specs.Frame.{frameAt, wordAt, signal}
+use Rattle.line.specs.Signal.{signal}
+use Rattle.e1.specs.Frame.{frameAt, wordAt}
 use Rattle.e1.specs.Block.{agrees}
 use Rattle.align.specs.Place.{basic, mark, signalAt, pairAt, withPlace, standing, firstStanding}
 use Rattle.measure.specs.Reading.{whole, wrongBitsOf, wrong, wrongBit2, wordLoss, bit2Loss, earlier, loss, wordErrors}

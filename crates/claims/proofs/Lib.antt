@@ -7,6 +7,7 @@ pub mod Demand1
 pub mod Demand2
 pub mod Demand3
 pub mod Losses
+pub mod T1Accepts
 pub mod Accepts
 pub mod Reasons
 pub mod Streams
@@ -14,6 +15,12 @@ pub mod Regular
 pub mod SignalsBack
 pub mod Signals
 pub mod Interface
+pub mod T1Read
+pub mod T1Demand1
+pub mod T1Demand3
+pub mod T1Written
+pub mod T1Standard
+pub mod T1Demand2
 pub mod Single
 pub mod Bench
 pub mod Promises

@@ -10,6 +10,9 @@ use Rattle.claims.proofs.Reasons.{reasons}
 use Rattle.claims.proofs.Streams.{streams}
 use Rattle.claims.proofs.Signals.{signals}
 use Rattle.claims.proofs.Interface.{interface}
+use Rattle.claims.proofs.T1Demand1.{t1-demand-1}
+use Rattle.claims.proofs.T1Demand2.{t1-demand-2}
+use Rattle.claims.proofs.T1Demand3.{t1-demand-3}
 use Rattle.claims.proofs.Single.{single}
 use Rattle.claims.proofs.Bench.{bench}
 
@@ -26,6 +29,9 @@ promises =
       streams = streams;
       signals = signals;
       interface = interface;
+      t1-demand-1 = t1-demand-1;
+      t1-demand-2 = t1-demand-2;
+      t1-demand-3 = t1-demand-3;
       single = single;
       bench = bench;
     }

@@ -22,6 +22,9 @@ use Rattle.signalled.specs.Entry as signalled
 use Rattle.exchange.specs.declared.State.{State}
 use Rattle.exchange.specs.Mapping.{mapRefusal}
 use Rattle.exchange.specs.Machine.{kindOf, aOf, bOf, hostRefusal, keyRefusal}
+use Rattle.t1read.specs.Entry as t1reads
+use Rattle.t1write.specs.Entry as t1writes
+use Rattle.claims.specs.T1Accepts.{ToReadT1, ToWriteT1, ToSignalT1}
 
 -- an image s, with a and b octets of room in the two outputs
 pub record ToRead (s : List ℕ) (a b : ℕ) : Type 0 where
@@ -125,3 +128,7 @@ pub record Accepts : Type 0 where
   pub host : (s : State) (r : List ℕ) → hostRefusal s r ≡ 0 ↔ ToHost s r
   pub key : (position : ℕ) → keyRefusal position ≡ 0 ↔ (position ≡ 0) ⊎ (position ≡ 1)
   pub map : (payload out : List ℕ) → mapRefusal payload out ≡ 0 ↔ ToMap payload out
+  pub t1-read : (s : List ℕ) (a b : ℕ) → t1reads.refusal s a b ≡ 0 ↔ ToReadT1 s a b
+  pub t1-write : (p l : List ℕ) (c m : ℕ) → t1writes.refusal p l c m ≡ 0 ↔ ToWriteT1 p l c m
+  pub t1-write-signalled : (p l : List ℕ) (c : ℕ) (g : List ℕ) (m : ℕ)
+      → t1writes.signalledRefusal p l c g m ≡ 0 ↔ ToSignalT1 p l c g m

@@ -1,5 +1,5 @@
--- The bench cases that go to proof, as one list under one claim (KIT §12).
-use Prim.Native.Nat.{ℕ, _+_, _-_, _*_, _^_}
+-- The bench cases that go to proof, as one list under one claim (KIT §12 and §15).
+use Prim.Native.Nat.{ℕ, _+_, _-_, _*_, _/_, _%_, _^_}
 use mathlib.Core.Path.{_≡_}
 use mathlib.Core.Bool.{Bool, true, _&&_}
 use mathlib.Core.List.{List, [], _∷_}
@@ -9,6 +9,7 @@ use Rattle.base.specs.Choice.{if_then_else_}
 use Rattle.base.specs.Tab.{tab, sum}
 use Rattle.e1.specs.Block.{blockCheck}
 use Rattle.e1.specs.Frame.{evenSlot0, oddSlot0}
+use Rattle.t1.specs.Superframe.{checkOf}
 use Rattle.signals.specs.Signalling.{firstIn}
 use Rattle.exchange.specs.Mapping.{entryAt}
 use Rattle.exchange.specs.Machine.{startState}
@@ -16,22 +17,29 @@ use Rattle.base.specs.Answer.{among}
 use Rattle.exchange.specs.Runs.{Call, host, key, boundary, afterRun}
 
 -- A case: the places of a block's bits that are 1, and its check; an octet, and what it is; a run from the start, a
--- slot, and its live entry then; slot 16 of frames in a row, and the first at which alignment is taken.
+-- slot, and its live entry then; slot 16 of frames in a row, and the first at which alignment is taken; of T1 a superframe
+-- whose octets are all the same, with ones at these places too, and its check.
 pub data Case : Type 0 where
   ones : List ℕ → ℕ → Case
   octet : ℕ → ℕ → Case
   run : List Call → ℕ → ℕ → Case
   taken : List ℕ → ℕ → Case
+  superframe : ℕ → List ℕ → ℕ → Case
 
 -- the octets of a block with ones at these places alone
 unfoldable pub blockOf : List ℕ → List ℕ
 blockOf places = tab 256 (λ i. sum 8 (λ j. if among (8 * i + j) places then 2 ^ (7 - j) else 0))
+
+-- bit i of a superframe whose octets are all x, with ones at these places too
+unfoldable pub superBit : ℕ → List ℕ → ℕ → ℕ
+superBit x places i = if among i places then 1 else x / 2 ^ (7 - (i % 193 - 1) % 8) % 2
 
 unfoldable pub holds : Case → Bool
 holds (ones places c) = eqb (blockCheck (blockOf places) 0) c
 holds (octet x y) = eqb x y
 holds (run calls slot entry) = eqb (entryAt (afterRun startState calls .live) slot) entry
 holds (taken t f) = eqb (firstIn t (length t)) f
+holds (superframe x places c) = eqb (checkOf (superBit x places)) c
 
 abbrev pub allHold : List Case → Bool
 allHold [] = true
@@ -70,6 +78,15 @@ cases =
     ∷ run (key 1 ∷ stage59 ∷ commit ∷ boundary ∷ key 0 ∷ []) 5 9
     -- 17
     ∷ taken (11 ∷ replicate 15 0) 1
+    -- 21: 000010, 010011, 000110
+    ∷ superframe 0 [] 2
+    ∷ superframe 255 [] 19
+    ∷ superframe 127 [] 6
+    -- 22
+    ∷ superframe 0 (4631 ∷ []) 1
+    ∷ superframe 0 (4630 ∷ []) 4
+    ∷ superframe 0 (193 ∷ []) 2
+    ∷ superframe 0 (4631 ∷ 4568 ∷ []) 2
     ∷ []
 
 abbrev pub Bench : Type 0

@@ -9,7 +9,8 @@ use Rattle.base.specs.Tab.{tab, sum}
 use Rattle.line.specs.Bit.{bitAt, field, octetAt}
 use Rattle.crc.specs.Remainder.{Bits, check}
 use Rattle.crc.specs.Polynomial.{poly, timesGen}
-use Rattle.e1.specs.Frame.{frameAt, slotAt, signal}
+use Rattle.line.specs.Signal.{signal}
+use Rattle.e1.specs.Frame.{frameAt, slotAt}
 use Rattle.e1.specs.Block.{blockCheck, carried}
 use Rattle.e1.specs.Payload.{indexOf, multiframes}
 use Rattle.align.specs.Place.{foundIn, startOf}

@@ -3,11 +3,15 @@ pub mod Demand2
 pub mod Demand3
 pub mod Losses
 pub mod Counts
+pub mod T1Accepts
 pub mod Accepts
 pub mod Reasons
 pub mod Streams
 pub mod Signals
 pub mod Interface
+pub mod T1Demand1
+pub mod T1Demand2
+pub mod T1Demand3
 pub mod Single
 pub mod Bench
 pub mod Promises

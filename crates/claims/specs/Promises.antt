@@ -9,6 +9,9 @@ use Rattle.claims.specs.Reasons.{Reasons}
 use Rattle.claims.specs.Streams.{Streams}
 use Rattle.claims.specs.Signals.{Signals}
 use Rattle.claims.specs.Interface.{Interface}
+use Rattle.claims.specs.T1Demand1.{T1Demand1}
+use Rattle.claims.specs.T1Demand2.{T1Demand2}
+use Rattle.claims.specs.T1Demand3.{T1Demand3}
 use Rattle.claims.specs.Single.{Single}
 use Rattle.claims.specs.Bench.{Bench}
 
@@ -23,5 +26,8 @@ pub record Promises : Type 0 where
   pub streams : Streams
   pub signals : Signals
   pub interface : Interface
+  pub t1-demand-1 : T1Demand1
+  pub t1-demand-2 : T1Demand2
+  pub t1-demand-3 : T1Demand3
   pub single : Single
   pub bench : Bench

@@ -1,6 +1,6 @@
 -- Nothing is left open: any two results that an entry's contract admits are equal, with what they leave in every lent
--- octet. The entries are those of `align`, `read`, `stream`, `signals`, `write`, `signalled` and `exchange`, and the
--- thirteen functions of the C interface over them.
+-- octet. The entries are those of `align`, `read`, `stream`, `signals`, `write`, `signalled`, `exchange`, `t1read` and
+-- `t1write`, and the sixteen functions of the C interface over them.
 use Prim.Native.Nat.{ℕ}
 use mathlib.Core.Path.{_≡_}
 use mathlib.Core.List.{List}
@@ -21,8 +21,12 @@ use Rattle.exchange.specs.Mapping.{Mapped}
 use Rattle.exchange.specs.Machine.{startState, hosted, keyed, crossed}
 use Rattle.exchange.specs.declared.State.{State}
 use Rattle.exchange.specs.declared.Answered.{Answered}
+use Rattle.t1read.specs.Entry as t1reads
+use Rattle.t1read.specs.declared.Reading as t1reading
+use Rattle.t1write.specs.Entry as t1writes
+use Rattle.t1write.specs.declared.Written as t1written
 use Rattle.jikhvanto.specs.Calls.{JkRead, JkStreamStart, JkFeed, JkEnd, JkSignals, JkWhy, JkWrite, JkWriteSignalled}
-use Rattle.jikhvanto.specs.Calls.{JkStart, JkHost, JkKey, JkBoundary, JkMap}
+use Rattle.jikhvanto.specs.Calls.{JkT1Read, JkT1Write, JkT1WriteSignalled, JkStart, JkHost, JkKey, JkBoundary, JkMap}
 
 pub record Single : Type 0 where
   pub read : (s payload slot0 : List ℕ) (r r' : Reading) (p p' o o' : List ℕ)
@@ -45,6 +49,12 @@ pub record Single : Type 0 where
   pub host : (s : State) (octets : List ℕ) (r r' : Answered) → r ≡ hosted s octets → r' ≡ hosted s octets → r ≡ r'
   pub key : (s : State) (position : ℕ) (r r' : Answered) → r ≡ keyed s position → r' ≡ keyed s position → r ≡ r'
   pub boundary : (s : State) (r r' : Answered) → r ≡ crossed s → r' ≡ crossed s → r ≡ r'
+  pub t1-read : (s payload link : List ℕ) (r r' : t1reading.Reading) (p p' l l' : List ℕ)
+      → t1reads.Read s payload link r p l → t1reads.Read s payload link r' p' l' → (r ≡ r') × (p ≡ p') × (l ≡ l')
+  pub t1-write : (p l : List ℕ) (c : ℕ) (out : List ℕ) (r r' : t1written.Written) (x x' : List ℕ)
+      → t1writes.Wrote p l c out r x → t1writes.Wrote p l c out r' x' → (r ≡ r') × (x ≡ x')
+  pub t1-write-signalled : (p l : List ℕ) (c : ℕ) (g out : List ℕ) (r r' : t1written.Written) (x x' : List ℕ)
+      → t1writes.WroteSignalled p l c g out r x → t1writes.WroteSignalled p l c g out r' x' → (r ≡ r') × (x ≡ x')
   pub jk-read : (image payload slot0 : List ℕ) (r r' : ℕ) (p p' o o' a a' : List ℕ)
       → JkRead image payload slot0 r p o a → JkRead image payload slot0 r' p' o' a'
       → (r ≡ r') × (p ≡ p') × (o ≡ o') × (a ≡ a')
@@ -63,6 +73,16 @@ pub record Single : Type 0 where
       → (r ≡ r') × (x ≡ x') × (a ≡ a')
   pub jk-write-signalled : (payload overhead : List ℕ) (check : ℕ) (xy abcd out : List ℕ) (r r' : ℕ) (x x' a a' : List ℕ)
       → JkWriteSignalled payload overhead check xy abcd out r x a → JkWriteSignalled payload overhead check xy abcd out r' x' a'
+      → (r ≡ r') × (x ≡ x') × (a ≡ a')
+  pub jk-t1-read : (image payload link : List ℕ) (r r' : ℕ) (p p' l l' a a' : List ℕ)
+      → JkT1Read image payload link r p l a → JkT1Read image payload link r' p' l' a'
+      → (r ≡ r') × (p ≡ p') × (l ≡ l') × (a ≡ a')
+  pub jk-t1-write : (payload link : List ℕ) (check : ℕ) (out : List ℕ) (r r' : ℕ) (x x' a a' : List ℕ)
+      → JkT1Write payload link check out r x a → JkT1Write payload link check out r' x' a'
+      → (r ≡ r') × (x ≡ x') × (a ≡ a')
+  pub jk-t1-write-signalled : (payload link : List ℕ) (check : ℕ) (signalling out : List ℕ) (r r' : ℕ) (x x' a a' : List ℕ)
+      → JkT1WriteSignalled payload link check signalling out r x a
+      → JkT1WriteSignalled payload link check signalling out r' x' a'
       → (r ≡ r') × (x ≡ x') × (a ≡ a')
   pub jk-start : (s s' : List ℕ) → JkStart s → JkStart s' → s ≡ s'
   pub jk-host : (state octets : List ℕ) (r r' : ℕ) (s s' a a' : List ℕ)
