@@ -6,6 +6,7 @@ use libc::STDERR_FILENO;
 use libc::STDIN_FILENO;
 use libc::STDOUT_FILENO;
 pub use refusal::print_refusal;
+use refusal::print_t1_refusal;
 use text::Spelt;
 use text::numbers;
 ghost use Prim.Native.Nat.{_≤_};
@@ -42,20 +43,43 @@ pub fn fail(program: &[u8], what: &[u8]) {
     os::fail(what);
 }
 
-// a line on standard error: the program, and the number that it was refused with, in words
-pub fn refused(program: &[u8], number: u64) {
+// a line on standard error begun: the program, and the number that it was refused with
+fn begin_refused(program: &[u8], number: u64) {
     io::write_all(STDERR_FILENO, program);
     io::write_all(STDERR_FILENO, b": refused ");
     io::print_decimal(STDERR_FILENO, number);
     io::write_all(STDERR_FILENO, b": ");
+}
+
+// the whole line, with the number in words
+pub fn refused(program: &[u8], number: u64) {
+    begin_refused(program, number);
     print_refusal(STDERR_FILENO, number);
     io::write_all(STDERR_FILENO, b"\n");
 }
 
-// a line on standard output with the number of a refusal, and on standard error the number in words
-pub fn answer_refused(program: &[u8], number: u64) {
+// the same of a call of T1
+pub fn t1_refused(program: &[u8], number: u64) {
+    begin_refused(program, number);
+    print_t1_refusal(STDERR_FILENO, number);
+    io::write_all(STDERR_FILENO, b"\n");
+}
+
+// a line on standard output with the number of a refusal
+fn print_refused(program: &[u8], number: u64) {
     written(program, print_number(b"refused ", number) & print(b"\n"));
+}
+
+// that line, and on standard error the number in words
+pub fn answer_refused(program: &[u8], number: u64) {
+    print_refused(program, number);
     refused(program, number);
+}
+
+// the same of a call of T1
+pub fn t1_answer_refused(program: &[u8], number: u64) {
+    print_refused(program, number);
+    t1_refused(program, number);
 }
 
 // with number 15, a line more on standard error: the place that goes with it, of which `why` can be asked

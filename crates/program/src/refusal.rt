@@ -1,8 +1,9 @@
 // The words for each number that says no.
+use crate::text::write_line;
 
 // on a descriptor, with no line end
 pub fn print_refusal(fd: i32, number: u64) -> bool {
-    crate::text::write_line(
+    write_line(
         fd,
         b"accepted\n\
         the line is under 2,048 octets; four multiframes are the least that can be read\n\
@@ -27,5 +28,23 @@ pub fn print_refusal(fd: i32, number: u64) -> bool {
         no call gives this number\n\
         the stream has ended, or was not made by calls; another one can be started",
         number,
+    )
+}
+
+// The same of a call of T1, which looks for 1 to 7 and 16: that one has the line behind 7.
+pub fn print_t1_refusal(fd: i32, number: u64) -> bool {
+    let k = if number == 16 { 8 } else { number };
+    write_line(
+        fd,
+        b"accepted\n\
+        the line is under 1,158 octets; two superframes are the least that can be read\n\
+        the line is over 8,192 octets, the most that is read at once; cut it, and read the rest by itself\n\
+        no superframes are found: nowhere do two follow each other, the first without an error; an E1 line is for report\n\
+        an output has no room for what is to be written\n\
+        the payload is not 1 to 14 superframes of 576 octets (588 with their data link, 684 with signalling too)\n\
+        the data link is not 12 octets a superframe, or one is neither 0 nor 1\n\
+        the check that is carried in is over 63\n\
+        the signalling is not 96 octets a superframe, or one is neither 0 nor 1",
+        k,
     )
 }
