@@ -1,7 +1,7 @@
-// The calls that steps make, but those on a stream, each with the line that it prints.
-use crate::chunks::END;
+// The calls that steps make, but those on a stream and of T1, each with the line that it prints.
 use crate::chunks::STREAM;
 use crate::print::digest;
+use crate::superframes::T1_WRITE_SIGNALLED;
 use align::Why;
 use exchange::State;
 use given::Bench;
@@ -17,27 +17,27 @@ ghost use mathlib.Core.Path.{_≡_};
 ghost use lib.ListN.{length};
 
 // The steps that call, by their lines in `given::STEPS`.
-const READ: usize = 16;
+const READ: usize = 19;
 
-const WRITE: usize = 17;
+const WRITE: usize = 20;
 
-const ROW: usize = 18;
+const ROW: usize = 21;
 
-const START: usize = 19;
+const START: usize = 22;
 
-const HOST: usize = 20;
+const HOST: usize = 23;
 
-const KEY: usize = 21;
+const KEY: usize = 24;
 
-const BOUNDARY: usize = 22;
+const BOUNDARY: usize = 25;
 
-const MAP: usize = 23;
+const MAP: usize = 26;
 
-const WHY: usize = 24;
+const WHY: usize = 27;
 
-const SIGNALS: usize = 25;
+const SIGNALS: usize = 28;
 
-const WRITE_SIGNALLED: usize = 26;
+const WRITE_SIGNALLED: usize = 29;
 
 // what every octet of an output holds before a call
 pub const BEFORE: u8 = 170;
@@ -155,17 +155,17 @@ fn signals(label: &[u8], image: [u8; 8193], bench: Bench, room: u64) {
 }
 
 // what a write answers, and the digest of its output
-fn show_write(label: &[u8], w: write::Written, out: &[u8]) {
+pub fn show_write(label: &[u8], number: u64, check: u64, out: &[u8]) {
     print(label);
-    print_number(b": ", w.number);
-    print_number(b" check ", w.check);
+    print_number(b": ", number);
+    print_number(b" check ", check);
     digest(b" out ", out);
     print(b"\n");
 }
 
 fn write_into(label: &[u8], payload: &[u8], overhead: &[u8], check: u64, out: &mut [u8]) {
     let w = write::write(payload, overhead, check, out);
-    show_write(label, w, out);
+    show_write(label, w.number, w.check, out);
 }
 
 // so many octets of a payload and of an overhead, a check, and an output of so many octets
@@ -193,7 +193,7 @@ fn write_signalled_into(
     out: &mut [u8],
 ) {
     let w = signalled::write_signalled(payload, overhead, check, xy, abcd, out);
-    show_write(label, w, out);
+    show_write(label, w.number, w.check, out);
 }
 
 // so many octets of a payload and of an overhead, a check, so many octets of XY and of ABCD, and an output of so many
@@ -233,7 +233,7 @@ fn write_two(label: &[u8], payload: &[u8], overhead: &[u8], out: &mut [u8])
         a.check,
         &mut out[512..1024],
     );
-    show_write(label, b, out);
+    show_write(label, b.number, b.check, out);
 }
 
 fn row_of_two(label: &[u8], payload: [u8; 8432], overhead: [u8; 136]) {
@@ -303,7 +303,7 @@ pub fn call(
     let abcd = bench.abcd;
     let image = bench.image;
     match k {
-        0..=ROOM | STREAM..=END => state,
+        0..=ROOM | STREAM..=T1_WRITE_SIGNALLED => state,
         READ => {
             read(label, image, bench);
             state

@@ -11,13 +11,13 @@ use stream::Fed;
 use stream::Stream;
 
 // The steps that call, by their lines in `given::STEPS`.
-pub const STREAM: usize = 27;
+pub const STREAM: usize = 30;
 
-const FEED: usize = 28;
+const FEED: usize = 31;
 
-const FEEDS: usize = 29;
+const FEEDS: usize = 32;
 
-pub const END: usize = 30;
+const END: usize = 33;
 
 fn feed_into(
     label: &[u8],

@@ -4,6 +4,7 @@
 mod calls;
 mod chunks;
 mod print;
+mod superframes;
 
 use exchange::State;
 use given::Bench;
@@ -40,7 +41,7 @@ struct Kept {
     stream: Stream,
 }
 
-// a step is a call on the state, on the stream, or none
+// a step is a call on the state, on the stream, of T1, or none
 fn called(
     label: &[u8],
     words: &[u8],
@@ -52,6 +53,7 @@ fn called(
 ) -> Kept {
     let state = calls::call(label, words, bench, kept.state, step.k, row, step.n);
     let stream = chunks::call(label, words, bench, kept.stream, window, step.k, row);
+    superframes::call(label, bench, step.k, row);
     Kept {
         state: state,
         stream: stream,

@@ -1,9 +1,9 @@
-// What the cases are made of: a payload, an overhead, signalling, and a line with its damage.
+// What the cases are made of: a payload, an overhead, signalling, bits for T1, and a line with its damage.
 use program::text::limited;
 ghost use Prim.Native.Nat.{_<_, _≤_};
 
 // The steps of a case, by the lines of this table. Up to ROOM they make something, here; those behind it call.
-pub const STEPS: [u8; 188] = *b"\
+pub const STEPS: [u8; 248] = *b"\
     payload\n\
     overhead\n\
     alike\n\
@@ -19,6 +19,9 @@ pub const STEPS: [u8; 188] = *b"\
     signal\n\
     slot16\n\
     part\n\
+    bits\n\
+    alike-bits\n\
+    t1-line\n\
     room\n\
     read\n\
     write\n\
@@ -34,7 +37,10 @@ pub const STEPS: [u8; 188] = *b"\
     stream\n\
     feed\n\
     feeds\n\
-    end\n";
+    end\n\
+    t1-read\n\
+    t1-write\n\
+    t1-write-signalled\n";
 
 const PAYLOAD: usize = 0;
 
@@ -66,17 +72,24 @@ const SLOT16: usize = 13;
 
 const PART: usize = 14;
 
-pub const ROOM: usize = 15;
+const BITS: usize = 15;
 
-pub const UNKNOWN: usize = 31;
+const ALIKE_BITS: usize = 16;
 
-// A payload, an overhead, XY and ABCD, of one multiframe more than a call takes; an image; which of its octets are read,
-// and into how much room.
+const T1_LINE: usize = 17;
+
+pub const ROOM: usize = 18;
+
+pub const UNKNOWN: usize = 37;
+
+// A payload, an overhead, XY and ABCD, of one multiframe more than a call takes; bits for T1's data link and signalling,
+// of one superframe more; an image; which of its octets are read, and into how much room.
 pub struct Bench {
     pub payload: [u8; 8432],
     pub overhead: [u8; 136],
     pub xy: [u8; 17],
     pub abcd: [u8; 510],
+    pub bits: [u8; 1440],
     pub image: [u8; 8193],
     pub from: u64,
     pub to: u64,
@@ -118,17 +131,27 @@ fn abcd() -> [u8; 510] {
     octets
 }
 
+fn bits() -> [u8; 1440] {
+    let mut octets = [0; 1440];
+    for j in 0..1440 {
+        octets[j] = ((7 * j + 5 * (j / 31)) / 4 % 2) as u8;
+    }
+    octets
+}
+
 // no image, and room for all that one can hold
 pub fn new() -> Bench {
     let payload = payload();
     let overhead = overhead();
     let xy = xy();
     let abcd = abcd();
+    let bits = bits();
     Bench {
         payload: payload,
         overhead: overhead,
         xy: xy,
         abcd: abcd,
+        bits: bits,
         image: [0; 8193],
         from: 0,
         to: 0,
@@ -193,6 +216,18 @@ fn signalled_line(
         &abcd[0..a],
         &mut octets[0..e],
     );
+    octets
+}
+
+// a T1 line of n superframes, the first carrying the check 5
+fn t1_line(payload: [u8; 8432], bits: [u8; 1440], n: usize) -> [u8; 8193]
+    requires { ⌜ n ≤ 14 ⌝ }
+{
+    let p = 576 * n;
+    let l = 12 * n;
+    let e = 579 * n;
+    let mut octets = [0; 8193];
+    t1write::write(&payload[0..p], &bits[0..l], 5, &mut octets[0..e]);
     octets
 }
 
@@ -276,6 +311,7 @@ impl Bench {
         let mut overhead = self.overhead;
         let mut xy = self.xy;
         let mut abcd = self.abcd;
+        let mut bits = self.bits;
         let image = self.image;
         let from = self.from;
         let to = self.to;
@@ -322,6 +358,19 @@ impl Bench {
             HIT | WORD | BIT2 | SIGNAL => self.imaged(hit(image, k, row, n), from, to),
             SLOT16 => self.imaged(with_slot16(image, row, n), from, to),
             PART => self.imaged(image, row[0], row[1]),
+            BITS => {
+                put(&mut bits, row, n);
+                b.bits = bits;
+                b
+            }
+            ALIKE_BITS => {
+                b.bits = [low(row[0]); 1440];
+                b
+            }
+            T1_LINE => {
+                let n = limited(row[0], 14);
+                self.imaged(t1_line(payload, bits, n), 0, (579 * n) as u64)
+            }
             ROOM => {
                 b.payload_room = row[0];
                 b.slot0_room = row[1];

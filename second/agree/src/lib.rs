@@ -1,18 +1,20 @@
 //! What the agreement tests share: the same reads, lines in chunks, places and
-//! writes, those of signalling too, given to the oracle and to another form, whose
-//! answers and octets are held together.
+//! writes, those of signalling and of T1 too, given to the oracle and to another form,
+//! whose answers and octets are held together.
 //! Another seed: `SEED=7 cargo test --release`.
 
 mod losses;
 mod reads;
 mod signals;
 mod streams;
+mod t1;
 mod whys;
 mod writes;
 
 pub use reads::reads;
 pub use signals::{signals, write_signalled_both, writes_signalled};
 pub use streams::{longest, streams, streams_by_octets, Stream};
+pub use t1::{t1_reads, t1_writes, t1_writes_signalled};
 pub use whys::whys;
 pub use writes::{write_both, writes};
 

@@ -114,6 +114,21 @@ fn writes_signalled_folded() {
 }
 
 #[test]
+fn t1_reads() {
+    agree::t1_reads("the optimised form", optimised::t1::read);
+}
+
+#[test]
+fn t1_writes() {
+    agree::t1_writes("the optimised form", optimised::t1::write);
+}
+
+#[test]
+fn t1_writes_signalled() {
+    agree::t1_writes_signalled("the optimised form", optimised::t1::write_signalled);
+}
+
+#[test]
 fn maps() {
     let seed = seed(&format!("{MAPS} mappings, the optimised form"));
     let mut numbers = [0; 6];

@@ -1,6 +1,6 @@
 //! The oracle held to the bench cases of the paper, by their numbers, and to
 //! what the paper promises of the loss, of `wordbits`, of `why`, of numbers 3 and
-//! 15, of signalling and of lines in chunks.
+//! 15, of signalling, of lines in chunks and of T1.
 
 use agree::seed;
 use given::making::{
@@ -9,6 +9,7 @@ use given::making::{
 use given::Random;
 use oracle::check::check;
 use oracle::line::{bits, number, octets, wrong_bits, BLOCK, FRAME, SIGNAL, WORD};
+use oracle::t1;
 use oracle::why::with_room;
 use oracle::writing::odd_slot0;
 use oracle::{
@@ -17,6 +18,7 @@ use oracle::{
 };
 
 const IMAGES: u64 = 4_000;
+const T1_LINES: u64 = 500;
 
 /// The check of a block that is 1 at these places only, as C1 to C4 read.
 fn check_of(ones: &[usize]) -> String {
@@ -341,6 +343,191 @@ fn case_20_the_longest_line() {
     assert_eq!((r.number, r.whole, r.used), (0, 32_768, 32_768));
     assert_eq!((r.compared, r.errored), (65_535, 2_047));
     assert_eq!(feed(&mut stream, &[0; 2], 0), unfed(21));
+}
+
+/// The check of a superframe with this payload, as C1 to C6 read.
+fn t1_check(payload: &[u8; 576]) -> String {
+    let w = t1::write(payload, &[0; 12], 0, &mut [0; 579]);
+    assert_eq!(w.number, 0);
+    format!("{:06b}", w.check)
+}
+
+/// The check of a superframe of 0 that is 1 at these places only.
+fn t1_check_of(ones: &[usize]) -> String {
+    let mut superframe = [0; t1::SUPERFRAME];
+    for place in ones {
+        superframe[*place] = 1;
+    }
+    t1::check(&superframe).map(|bit| bit.to_string()).concat()
+}
+
+/// The payload and the data link of so many superframes.
+fn t1_given(n: usize) -> (Vec<u8>, Vec<u8>) {
+    let payload = (0..576 * n).map(|i| (11 * i + i / 31) as u8).collect();
+    (payload, (0..12 * n).map(|j| (j / 5 % 2) as u8).collect())
+}
+
+fn t1_line(n: usize) -> Vec<u8> {
+    let (payload, link) = t1_given(n);
+    let mut out = vec![0; 579 * n];
+    assert_eq!(t1::write(&payload, &link, 0, &mut out).number, 0);
+    out
+}
+
+fn t1_read_all(image: &[u8]) -> t1::Reading {
+    t1::read(image, &mut [0; 8_064], &mut [0; 168])
+}
+
+/// A reading from this place.
+fn t1_reading(place: u64, whole: u64, errored: u64) -> t1::Reading {
+    t1::Reading {
+        number: 0,
+        place,
+        whole,
+        compared: whole - 1,
+        errored,
+    }
+}
+
+#[test]
+fn case_21_superframes_alike() {
+    assert_eq!(t1_check(&[0x00; 576]), "000010");
+    assert_eq!(t1_check(&[0xFF; 576]), "010011");
+    assert_eq!(t1_check(&[0x7F; 576]), "000110");
+}
+
+/// The framing bits, which are read as 1, alone make 000010.
+#[test]
+fn case_22_single_bits() {
+    assert_eq!(t1_check_of(&[]), "000010");
+    assert_eq!(t1_check_of(&[4_631]), "000001");
+    assert_eq!(t1_check_of(&[4_630]), "000100");
+    for f in 0..24 {
+        assert_eq!(t1_check_of(&[193 * f]), "000010");
+    }
+    assert_eq!(t1_check_of(&[4_631, 4_568]), "000010");
+}
+
+#[test]
+fn case_23_lengths() {
+    assert_eq!(t1_read_all(&[0; 1_157]), t1::refused(1));
+    assert_eq!(t1_read_all(&[0; 1_158]), t1::refused(3));
+    assert_eq!(t1_read_all(&[255; 1_158]), t1::refused(3));
+    assert_eq!(t1_read_all(&[0; 8_193]), t1::refused(2));
+}
+
+#[test]
+fn case_24_one_bit_in_front() {
+    let image = shifted(&t1_line(2), 1);
+    assert_eq!(image.len(), 1_159);
+    assert_eq!(t1_read_all(&image), t1_reading(1, 2, 0));
+}
+
+#[test]
+fn case_25_hits() {
+    let read_hit = |place: usize| {
+        let mut image = t1_line(14);
+        flip(&mut image, place);
+        t1_read_all(&image)
+    };
+    assert_eq!(t1_read_all(&t1_line(14)), t1_reading(0, 14, 0));
+    for place in [1, 8, 100, 192, 194, 4_631] {
+        assert_eq!(read_hit(2 * 4_632 + place), t1_reading(0, 14, 1));
+    }
+    assert_eq!(read_hit(3 * 4_632 + t1::CHECK[1]), t1_reading(0, 14, 1));
+    for place in t1::LINK {
+        assert_eq!(read_hit(5 * 4_632 + place), t1_reading(0, 14, 0));
+    }
+    for place in t1::SIGNAL_PLACES {
+        assert_eq!(read_hit(2 * 4_632 + place), t1_reading(0, 14, 0));
+    }
+}
+
+#[test]
+fn case_26_the_first_is_errored() {
+    for (n, answer) in [(3, t1_reading(4_632, 2, 0)), (2, t1::refused(3))] {
+        let mut image = t1_line(n);
+        flip(&mut image, 100);
+        assert_eq!(t1_read_all(&image), answer);
+    }
+}
+
+#[test]
+fn case_27_the_check_of_what_is_sent() {
+    let mut payload = [0xFF; 576];
+    let (mut out, mut replaced_out) = ([0; 579], [0; 579]);
+    let w = t1::write_signalled(&payload, &[0; 12], 63, &[0; 96], &mut out);
+    for f in [6, 12, 18, 24] {
+        payload[24 * (f - 1)..24 * f].fill(0xFE);
+    }
+    let replaced = t1::write(&payload, &[0; 12], 63, &mut replaced_out);
+    assert_eq!((w.number, w), (0, replaced));
+    assert_eq!(out, replaced_out);
+    assert_eq!(t1::carried(&bits(&out)), [1; 6]);
+}
+
+/// What is written comes back, with the bits that signalling replaced.
+#[test]
+fn t1_lines_come_back() {
+    let seed = seed(&format!("{T1_LINES} lines of T1 written and read"));
+    for item in 0..T1_LINES {
+        let r = &mut Random::new(seed, item);
+        let n = r.between(2, 14);
+        let (payload, link) = (r.octets(576 * n), r.numbers(12 * n, 0, 1));
+        let signalling = r.numbers(96 * n, 0, 1);
+        let mut out = vec![0; 579 * n];
+        t1::write_signalled(&payload, &link, 0, &signalling, &mut out);
+        let (mut read, mut read_link) = (vec![0; 576 * n], vec![0; 12 * n]);
+        let reading = t1::read(&out, &mut read, &mut read_link);
+        assert_eq!(reading, t1_reading(0, n as u64, 0), "line {item}");
+        assert!(read_link == link, "line {item}");
+        let mut heard = Vec::new();
+        for (i, (read, octet)) in read.iter().zip(&payload).enumerate() {
+            if i / 24 % 6 == 5 {
+                heard.push(read & 1);
+                assert_eq!(read >> 1, octet >> 1, "line {item}");
+            } else {
+                assert_eq!(read, octet, "line {item}");
+            }
+        }
+        assert!(heard == signalling, "line {item}");
+    }
+}
+
+/// A hit of up to six neighbours shows, but where no check can tell; one of
+/// seven may hide.
+#[test]
+fn t1_hits_show() {
+    let line = bits(&t1_line(3));
+    let last = 2 * t1::SUPERFRAME;
+    let untold = |place: usize| {
+        let at = place % t1::SUPERFRAME;
+        match at % t1::FRAME {
+            0 => !t1::CHECK.contains(&at) || place < t1::SUPERFRAME,
+            _ => place >= last,
+        }
+    };
+    let agrees = |line: &[u8]| (0..2).all(|s| t1::agrees(line, s * t1::SUPERFRAME));
+    let r = &mut Random::new(0, 0);
+    for hit in (1..64).cycle().take(4_000) {
+        let at = match r.below(3) {
+            0 => r.below(3 * 24) * t1::FRAME + r.below(6),
+            _ => r.below(line.len() - 6),
+        };
+        let mut image = line.clone();
+        let places = (0..6).filter(|i| hit >> i & 1 == 1).map(|i| at + i);
+        let places: Vec<usize> = places.filter(|place| *place < line.len()).collect();
+        for place in &places {
+            image[*place] ^= 1;
+        }
+        let shows = !places.iter().all(|place| untold(*place));
+        assert_eq!(!agrees(&image), shows, "{places:?}");
+    }
+    let mut image = line;
+    for place in [100, 105, 106] {
+        image[place] ^= 1;
+    }
+    assert!(agrees(&image));
 }
 
 /// What is heard of a line of which slot 16 is this, over and over, frame 0

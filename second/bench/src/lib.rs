@@ -3,8 +3,10 @@
 //! there is one, comes first, and the ratios are its own.
 
 mod chunks;
+mod t1;
 
 pub use chunks::feeds;
+pub use t1::T1;
 
 use chunks::{Chunks, Feeds};
 use given::making::{densest, false_starts, set_slot16, shifted, wrong_signals};
@@ -38,6 +40,7 @@ pub struct Form {
     pub write_signalled: WriteSignalled,
     pub map: Map,
     pub feeds: Option<Feeds>,
+    pub t1: T1,
 }
 
 /// The oracle.
@@ -56,6 +59,7 @@ pub fn plain() -> Form {
         }),
         map: Box::new(move |payload, out| exchange.map(payload, out)),
         feeds: None,
+        t1: t1::plain(),
     }
 }
 
@@ -91,6 +95,7 @@ fn with_check(name: &'static str, check: Check) -> Form {
             optimised::Stream::start,
             move |stream, chunk, payload, slot0| stream.feed(chunk, payload, slot0, check),
         )),
+        t1: t1::optimised(),
     }
 }
 
@@ -141,6 +146,7 @@ enum Asked {
         condition: u64,
     },
     Feed(Chunks),
+    T1(t1::Call),
 }
 
 type Row = (&'static str, Asked);
@@ -172,7 +178,7 @@ fn rows() -> Vec<Row> {
     let read = |image, number| Asked::Read { image, number };
     let signals = |image, multiframes| Asked::Signals { image, multiframes };
     let why = |image, condition| Asked::Why { image, condition };
-    vec![
+    let mut rows = vec![
         ("read-place-0", read(aligned.clone(), 0)),
         ("read-place-3", read(moved, 0)),
         ("read-noise", read(noise, 15)),
@@ -201,7 +207,9 @@ fn rows() -> Vec<Row> {
         ("map-16", Asked::Map { payload }),
         ("why-stands", why(aligned, 0)),
         ("why-no-pair", why(unpaired, 4)),
-    ]
+    ];
+    rows.extend(t1::rows());
+    rows
 }
 
 fn feed_rows() -> Vec<Row> {
@@ -233,6 +241,7 @@ impl Asked {
             | Asked::Map { payload } => payload,
             Asked::Why { image, .. } => &image[..2_048],
             Asked::Feed(chunks) => &chunks.octets()[..chunks.octets().len() / 512 * 496],
+            Asked::T1(call) => call.handed_over(),
         }
     }
 
@@ -298,6 +307,7 @@ impl Asked {
                 })
             }
             Asked::Feed(chunks) => return form.feeds.as_ref().map(|feeds| feeds(chunks)),
+            Asked::T1(call) => call.of(form.name, &form.t1),
         })
     }
 }

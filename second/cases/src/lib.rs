@@ -4,6 +4,7 @@
 #![forbid(unsafe_code)]
 
 mod chunks;
+mod t1;
 
 use chunks::chunks;
 use given::making::{
@@ -12,6 +13,7 @@ use given::making::{
 use oracle::line::octets;
 use oracle::{read, signals, why, write, write_signalled, Exchange, Reading};
 use std::fmt::Write;
+use t1::t1;
 
 /// What every lent octet holds before a call.
 const BEFORE: u8 = 170;
@@ -43,6 +45,7 @@ pub fn all() -> String {
     rows(&mut text);
     signalled_writes(&mut text);
     runs(&mut text);
+    t1(&mut text);
     text
 }
 

@@ -140,7 +140,7 @@ fn payload(r: &mut Random, count: usize) -> Vec<u8> {
 }
 
 /// Turns over each of the bits at these places, once in `times`.
-fn hit(r: &mut Random, line: &mut [u8], places: impl Iterator<Item = usize>, times: usize) {
+pub fn hit(r: &mut Random, line: &mut [u8], places: impl Iterator<Item = usize>, times: usize) {
     for place in places {
         if r.once_in(times) {
             line[place] ^= 1;

@@ -9,6 +9,7 @@ mod image;
 pub mod making;
 mod random;
 mod signalled;
+pub mod t1;
 
 pub use asked::{asked, Asked};
 pub use chunks::{chunks, joined, longest};

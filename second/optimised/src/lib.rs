@@ -15,6 +15,7 @@ mod place;
 mod reading;
 mod signalling;
 mod stream;
+pub mod t1;
 mod why;
 mod writing;
 

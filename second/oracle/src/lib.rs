@@ -11,6 +11,7 @@ pub mod place;
 pub mod reading;
 pub mod signalling;
 pub mod stream;
+pub mod t1;
 pub mod why;
 pub mod writing;
 

@@ -1,11 +1,11 @@
 //! The proved library in the shape of the oracle, through its safe binding.
-//! Each read, why and write, with signalling too, is made once more through the
-//! C interface: the number returned, all places of the answer, which are set
+//! Each read, why and write, with signalling and of T1 too, is made once more
+//! through the C interface: the number returned, all places of the answer, which are set
 //! beforehand, and every octet must be what the binding says.
 
 use jikhvanto::sys::{self, ANSWER};
 use jikhvanto::{Cause, Refusal, Why as Said};
-use oracle::{Reading, Signals, Why, Written};
+use oracle::{t1, Reading, Signals, Why, Written};
 
 /// What a call leaves in the places of its answer.
 pub fn answered(call: impl FnOnce(&mut [u64; ANSWER]) -> u64) -> [u64; ANSWER] {
@@ -224,6 +224,88 @@ pub fn write_signalled(
     });
     let w = written(jikhvanto::write_signalled(
         payload, overhead, check, xy, abcd, out,
+    ));
+    assert_eq!(answer, places([w.number, w.check]));
+    assert!(c_out == out, "output of {w:?}");
+    w
+}
+
+pub fn t1_read(image: &[u8], payload: &mut [u8], link: &mut [u8]) -> t1::Reading {
+    let (mut c_payload, mut c_link) = (payload.to_vec(), link.to_vec());
+    // SAFETY: every pointer comes with the length of its own slice.
+    let answer = answered(|answer| unsafe {
+        sys::jk_t1_read(
+            image.as_ptr(),
+            image.len(),
+            c_payload.as_mut_ptr(),
+            c_payload.len(),
+            c_link.as_mut_ptr(),
+            c_link.len(),
+            answer,
+        )
+    });
+    let r = match jikhvanto::t1::read(image, payload, link) {
+        Ok(r) => t1::Reading {
+            number: 0,
+            place: r.place as u64,
+            whole: r.whole as u64,
+            compared: r.compared as u64,
+            errored: r.errored as u64,
+        },
+        Err(refusal) => t1::refused(refusal.number()),
+    };
+    let values = [r.number, r.place, r.whole, r.compared, r.errored];
+    assert_eq!(answer, places(values));
+    assert!(c_payload == payload && c_link == link, "outputs of {r:?}");
+    r
+}
+
+pub fn t1_write(payload: &[u8], link: &[u8], check: u64, out: &mut [u8]) -> Written {
+    let mut c_out = out.to_vec();
+    // SAFETY: every pointer comes with the length of its own slice.
+    let answer = answered(|answer| unsafe {
+        sys::jk_t1_write(
+            payload.as_ptr(),
+            payload.len(),
+            link.as_ptr(),
+            link.len(),
+            check,
+            c_out.as_mut_ptr(),
+            c_out.len(),
+            answer,
+        )
+    });
+    let w = written(jikhvanto::t1::write(payload, link, check, out));
+    assert_eq!(answer, places([w.number, w.check]));
+    assert!(c_out == out, "output of {w:?}");
+    w
+}
+
+pub fn t1_write_signalled(
+    payload: &[u8],
+    link: &[u8],
+    check: u64,
+    signalling: &[u8],
+    out: &mut [u8],
+) -> Written {
+    let mut c_out = out.to_vec();
+    // SAFETY: every pointer comes with the length of its own slice.
+    let answer = answered(|answer| unsafe {
+        sys::jk_t1_write_signalled(
+            payload.as_ptr(),
+            payload.len(),
+            link.as_ptr(),
+            link.len(),
+            check,
+            signalling.as_ptr(),
+            signalling.len(),
+            c_out.as_mut_ptr(),
+            c_out.len(),
+            answer,
+        )
+    });
+    let w = written(jikhvanto::t1::write_signalled(
+        payload, link, check, signalling, out,
     ));
     assert_eq!(answer, places([w.number, w.check]));
     assert!(c_out == out, "output of {w:?}");

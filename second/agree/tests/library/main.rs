@@ -34,6 +34,72 @@ fn writes_signalled() {
     agree::writes_signalled("the library", kit::write_signalled);
 }
 
+#[test]
+fn t1_reads() {
+    agree::t1_reads("the library", kit::t1_read);
+}
+
+#[test]
+fn t1_writes() {
+    agree::t1_writes("the library", kit::t1_write);
+}
+
+#[test]
+fn t1_writes_signalled() {
+    agree::t1_writes_signalled("the library", kit::t1_write_signalled);
+}
+
+/// Any octet at each place of the data link and of signalling, the others good.
+#[test]
+fn t1_every_bit() {
+    let r = &mut Random::new(0, 0);
+    let (payload, link) = (r.octets(1_152), r.numbers(24, 0, 1));
+    let signalling = r.numbers(192, 0, 1);
+    for octet in [2, 3, 4, 8, 16, 32, 64, 128, 129, 254, 255] {
+        for i in 0..24 + 192 {
+            let (mut link, mut signalling) = (link.clone(), signalling.clone());
+            *link.iter_mut().chain(&mut signalling).nth(i).unwrap() = octet;
+            let number = if i < 24 { 6 } else { 16 };
+            let mut out = [0; 1_158];
+            let w = kit::t1_write_signalled(&payload, &link, 0, &signalling, &mut out);
+            assert_eq!((w.number, w.check), (number, 0));
+            assert_eq!(out, [0; 1_158]);
+        }
+    }
+}
+
+/// Each bit of the payload and of the data link turned over alone, and each
+/// carried check, in a line that is written and read again.
+#[test]
+fn t1_each_bit_alone() {
+    let r = &mut Random::new(0, 1);
+    let (payload, link) = (r.octets(1_152), r.numbers(24, 0, 1));
+    let both = |payload: &[u8], link: &[u8], check: u64| {
+        let (mut out, mut kit_out) = ([0; 1_158], [0; 1_158]);
+        let written = oracle::t1::write(payload, link, check, &mut out);
+        assert_eq!(kit::t1_write(payload, link, check, &mut kit_out), written);
+        assert!(kit_out == out);
+        let (mut octets, mut bits) = ([0; 1_152], [0; 24]);
+        let reading = kit::t1_read(&out, &mut octets, &mut bits);
+        assert_eq!((reading.number, reading.place), (0, 0));
+        assert_eq!((reading.whole, reading.errored), (2, 0));
+        assert!(octets == payload && bits == link);
+    };
+    for bit in 0..8 * 1_152 {
+        let mut payload = payload.clone();
+        payload[bit / 8] ^= 128 >> (bit % 8);
+        both(&payload, &link, 0);
+    }
+    for j in 0..24 {
+        let mut link = link.clone();
+        link[j] ^= 1;
+        both(&payload, &link, 0);
+    }
+    for check in 0..64 {
+        both(&payload, &link, check);
+    }
+}
+
 /// Each bit of each overhead octet alone, and each with all others.
 #[test]
 fn every_overhead_bit() {
@@ -111,6 +177,31 @@ fn handed_on() {
         let second = kit::write(
             &payload[496 * cut..],
             &overhead[8 * cut..],
+            first.check,
+            out_rest,
+        );
+        assert_eq!(second, at_once, "item {item}");
+        assert!(parts == whole, "item {item}");
+    }
+}
+
+#[test]
+fn t1_handed_on() {
+    let seed = seed(&format!("{ROWS} writes of T1 handed on, the library"));
+    for item in 0..ROWS {
+        let r = &mut Random::new(seed, item);
+        let (n, check) = (r.between(2, 14), r.below(64) as u64);
+        let (payload, link) = (r.octets(576 * n), r.numbers(12 * n, 0, 1));
+        let cut = r.between(1, n - 1);
+
+        let mut whole = vec![0; 579 * n];
+        let at_once = kit::t1_write(&payload, &link, check, &mut whole);
+        let mut parts = vec![0; 579 * n];
+        let (out, out_rest) = parts.split_at_mut(579 * cut);
+        let first = kit::t1_write(&payload[..576 * cut], &link[..12 * cut], check, out);
+        let second = kit::t1_write(
+            &payload[576 * cut..],
+            &link[12 * cut..],
             first.check,
             out_rest,
         );

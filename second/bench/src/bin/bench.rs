@@ -2,7 +2,7 @@
 //! plain form, the optimised form with either check and a copy. `marks` has
 //! the same without the library.
 
-use bench::{hidden, Form};
+use bench::{hidden, Form, T1};
 use jikhvanto::{Refusal, State, Stream};
 use oracle::Fed;
 use std::process::ExitCode;
@@ -29,6 +29,22 @@ fn kit() -> Form {
         }),
         map: Box::new(move |payload, out| number(state.map(payload, out))),
         feeds: Some(bench::feeds(Stream::new, feed)),
+        t1: t1(),
+    }
+}
+
+fn t1() -> T1 {
+    use jikhvanto::t1::{read, write, write_signalled};
+    T1 {
+        read: Box::new(|image, payload, link| number(hidden(read(image, payload, link)))),
+        write: Box::new(|payload, link, check, out| {
+            number(hidden(write(payload, link, check, out)))
+        }),
+        write_signalled: Box::new(|payload, link, check, signalling, out| {
+            number(hidden(write_signalled(
+                payload, link, check, signalling, out,
+            )))
+        }),
     }
 }
 
