@@ -13,7 +13,7 @@ use Rattle.line.proofs.SpeltLaws.{spelt-agree}
 use Rattle.crc.specs.Remainder.{after, check}
 use Rattle.crc.proofs.StripedLaws.{striped-agree}
 use Rattle.t1.specs.Superframe.{checkOf, superCheck, carried}
-use Rattle.t1sliced.specs.Sliced.{Agreeing, raw}
+use Rattle.t1sliced.specs.Sliced.{AgreesAt, raw}
 use Rattle.t1align.specs.Stands.{Framed, Stands}
 use Rattle.t1align.specs.Window.{BothFramed}
 
@@ -57,7 +57,7 @@ module _ (s : List ℕ) (i : ℕ) where
 
   -- so a place of the image, with room, stands where the part has both signals and agrees
   pub stands-in-part : (o : ℕ) → o < 56 → 8 * i + o + 9264 ≤ 8 * length s
-      → BothFramed (part s i) o × Agreeing (part s i) o ↔ Stands s (8 * i + o)
+      → BothFramed (part s i) o × AgreesAt (part s i) o ↔ Stands s (8 * i + o)
   stands-in-part o h room =
       let first = framed-of-part o (8 * i + o) (omega arith) (omega arith) in
       let second = framed-of-part (o + 4632) (8 * i + o + 4632) (omega arith) (omega arith) in

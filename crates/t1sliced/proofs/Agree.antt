@@ -16,7 +16,7 @@ use Rattle.line.proofs.SpeltLaws.{Binary, spelt-agree, spelt-digits, digit-spel
 use Rattle.crc.proofs.Xor.{xor-eq}
 use Rattle.t1.specs.Superframe.{superCheck, carried}
 use Rattle.t1.proofs.Laws.{check-of-lt}
-use Rattle.t1sliced.specs.Sliced.{Exactly, Agreeing, Sliced, BitsFrom, Complement}
+use Rattle.t1sliced.specs.Sliced.{Exactly, AgreesAt, Sliced, BitsFrom, Complement}
 use Rattle.t1sliced.proofs.Bitwise.{xor-bits, or-bits, or-none}
 
 -- f 0 to f (n - 1), joined by |
@@ -64,7 +64,7 @@ module _ (s check carrying : List ℕ) (own : Sliced (superCheck s) check)
   next-bit o i h l =
       let e : o + (4825 + 772 * i) ≡ o + 4632 + 193 * (4 * i + 1) = omega arith in next i l o h ∙ ap (bitAt s) e
 
-  all-agree : (o : ℕ) → o < 56 → bitOf (ors 6 differing) (63 - o) ≡ 0 ↔ Agreeing s o
+  all-agree : (o : ℕ) → o < 56 → bitOf (ors 6 differing) (63 - o) ≡ 0 ↔ AgreesAt s o
   unfolding carried
   all-agree o h =
       let same = digits-same (superCheck s o) (carriedBit o) (check-of-lt (λ i. bitAt s (o + i)) (λ i. bit-lt s (o + i))) (λ i. bit-lt s (o + 4632 + 193 * (4 * i + 1))) in
@@ -75,7 +75,7 @@ module _ (s check carrying : List ℕ) (own : Sliced (superCheck s) check)
         λ e. none .1 (λ i l. each i .1 (own o h (5 - i) (omega arith) ∙ same .0 e i l ∙ sym (next-bit o i h l))),
       )
 
-  pub agree-exactly : (r : ℕ) → Complement (ors 6 differing) r → Exactly (Agreeing s) r
+  pub agree-exactly : (r : ℕ) → Complement (ors 6 differing) r → Exactly (AgreesAt s) r
   agree-exactly r over o h =
       let e = over (63 - o) (omega arith) in
       (λ one. all-agree o h .0 (omega arith), λ agree. e ∙ ap (λ b. 1 - b) (all-agree o h .1 agree))

@@ -19,9 +19,9 @@ use Rattle.t1.specs.Superframe.{superCheck, carried}
 abbrev pub Exactly : (ℕ → Type 0) → ℕ → Type 0
 Exactly P r = (o : ℕ) → o < 56 → (One r (63 - o) ↔ P o)
 
--- the first one agrees
-abbrev pub Agreeing : List ℕ → ℕ → Type 0
-Agreeing s o = superCheck s o ≡ carried s (o + 4632)
+-- the superframe at o agrees
+abbrev pub AgreesAt : List ℕ → ℕ → Type 0
+AgreesAt s o = superCheck s o ≡ carried s (o + 4632)
 
 -- the remainder of the 4,632 bits from place p on, framing bits as they are
 unfoldable pub raw : List ℕ → ℕ → ℕ

@@ -5,7 +5,7 @@ pub mod raw;
 ghost use mathlib.Core.Path.{_≡_};
 ghost use Prim.Native.Nat.{_+_, _*_, _<_, _≤_};
 ghost use lib.ListN.{length};
-ghost use Rattle.t1sliced.specs.Sliced.{Exactly, Agreeing, raw, lacking, Sliced, Times, PlusLater, change};
+ghost use Rattle.t1sliced.specs.Sliced.{Exactly, AgreesAt, raw, lacking, Sliced, Times, PlusLater, change};
 ghost use Rattle.t1sliced.specs.Sliced.{BitsLater, TopBit, BitsFrom, Complement, WithFrame, WithEight};
 
 // times x, x^2, x^4, x^8 and x^16
@@ -160,7 +160,7 @@ fn framings(part: &[u8]) -> [u64; 6]
 // the places of which the check is what the next superframe carries
 pub fn agreeing(part: &[u8], at: u64) -> u64
     requires { ⌜ (length (now part) ≡ 1158) × (at ≡ raw (now part) 0) × (at < 64) ⌝ }
-    ensures { λ r. ⌜ Exactly (Agreeing (now (part .entry))) r ⌝ }
+    ensures { λ r. ⌜ Exactly (AgreesAt (now (part .entry))) r ⌝ }
 {
     let whole = plus_later(raws(part, at), framings(part), 0);
     let check = times_x2(times_x4(whole));

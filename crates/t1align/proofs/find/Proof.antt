@@ -16,7 +16,7 @@ use lib.Count.{leadingZeros, leading-le}
 use lib.Dec.{leb}
 use lib.ListN.{length}
 use Rattle.base.specs.Choice.{whenSo}
-use Rattle.t1sliced.specs.Sliced.{Exactly, Agreeing, raw}
+use Rattle.t1sliced.specs.Sliced.{Exactly, AgreesAt, raw}
 use Rattle.t1align.specs.Place.{found, foundIn}
 use Rattle.t1align.specs.Stands.{Stands}
 use Rattle.t1align.specs.Window.{BothFramed}
@@ -51,7 +51,7 @@ nowhere s p before end = sym (finds-nothing s .1 (λ q h. before q (omega (arith
 
 -- in the window at octet i, whose places with both signals are known
 module _ (s : List ℕ) (i framed : ℕ) (signals : Exactly (BothFramed (part s i)) framed) (before : NoneBefore s (8 * i)) where
-  past : (n : ℕ) → n ≤ 56 → ((o : ℕ) → o < 56 → o < n → BothFramed (part s i) o × Agreeing (part s i) o → ⊥)
+  past : (n : ℕ) → n ≤ 56 → ((o : ℕ) → o < 56 → o < n → BothFramed (part s i) o × AgreesAt (part s i) o → ⊥)
       → NoneBefore s (8 * i + n)
   past n m here q l h =
       elim (decLt q (8 * i)) [
@@ -66,11 +66,11 @@ module _ (s : List ℕ) (i framed : ℕ) (signals : Exactly (BothFramed (part s 
   past-empty z = past 56 (omega arith) (λ o l g w. none-exactly _ framed z signals o l (w .0))
 
   -- and those that agree
-  module _ (agreed : ℕ) (agreeing : Exactly (Agreeing (part s i)) agreed) (few : framed < 2 ^ 64) where
+  module _ (agreed : ℕ) (agreeing : Exactly (AgreesAt (part s i)) agreed) (few : framed < 2 ^ 64) where
     abbrev zeros : ℕ
     zeros = leadingZeros 64 (bitAnd framed agreed)
 
-    both : Exactly (λ o. BothFramed (part s i) o × Agreeing (part s i) o) (bitAnd framed agreed)
+    both : Exactly (λ o. BothFramed (part s i) o × AgreesAt (part s i) o) (bitAnd framed agreed)
     both = both-exactly _ _ framed agreed signals agreeing
 
     past-zeros : (n : ℕ) → n ≤ 56 → n ≤ zeros → NoneBefore s (8 * i + n)
