@@ -202,18 +202,6 @@ fn wanted(s: &[u8], i: usize, basic: u64, known: bool) -> u64
     basic & paired(s, i)
 }
 
-// how many octets have a place with room
-fn octets_with_room(s: &[u8]) -> usize
-    requires { ⌜ length (now s) < 2 ^ 60 ⌝ }
-    ensures { λ r. ⌜ r ≡ length (now (s .entry)) + 1 - 2048 ⌝ }
-{
-    let n = s.len() + 1;
-    if n < 2048 {
-        return 0;
-    }
-    n - 2048
-}
-
 // past places that the search need not look at, from an octet's start on
 fn onward(s: &[u8], p: usize, end: usize, known: bool) -> usize
     requires { ⌜ (length (now s) < 2 ^ 60) × (p ≤ 8 * length (now s)) × (end ≡ length (now s) + 1 - 2048) ⌝ }
@@ -265,7 +253,7 @@ pub fn find(s: &[u8]) -> Found
     ensures { λ r. ⌜ r ≡ foundIn (now (s .entry)) ⌝ }
 {
     let bits = 8 * s.len();
-    let end = octets_with_room(s);
+    let end = line::octets_with_room(s, 2048);
     let mut p = 0;
     let mut first = bits;
     'search: loop {

@@ -1,5 +1,5 @@
 ghost use mathlib.Core.Path.{_≡_};
-ghost use Prim.Native.Nat.{_+_, _*_, _<_, _≤_};
+ghost use Prim.Native.Nat.{_+_, _-_, _*_, _^_, _<_, _≤_};
 ghost use lib.ListN.{length};
 ghost use Rattle.line.specs.Bit.{bitAt, field, octetAt};
 ghost use Rattle.line.specs.Spelt.{speltOctet};
@@ -39,6 +39,28 @@ pub fn octet(s: &[u8], p: usize) -> u8
     ensures { λ r. ⌜ r ≡ octetAt (now (s .entry)) p ⌝ }
 {
     octet_in(s, p >> 3, p & 7)
+}
+
+// the run of 16 octets from bit o of octet i on, by value: it is read whole before any of it is written
+pub fn run_in(s: &[u8], i: usize, o: usize) -> [u8; 16]
+    requires { ⌜ (8 * i + o + 128 ≤ 8 * length (now s)) × (o < 8) ⌝ }
+    ensures { λ r. ⌜ r ≡ tab 16 (λ j. octetAt (now (s .entry)) (8 * i + o + 8 * j)) ⌝ }
+{
+    let mut octets = [0; 16];
+    for j in 0..16 {
+        octets[j] = octet_in(s, i + j, o);
+    }
+    octets
+}
+
+// writes a run to `out`; reading and writing as one function, which E1 and T1 both call, is twice as slow for E1
+pub fn put_run(octets: [u8; 16], out: &mut [u8])
+    requires { ⌜ length (now out) ≡ 16 ⌝ }
+    ensures { λ _. ⌜ now (out .exit) ≡ octets ⌝ }
+{
+    for j in 0..16 {
+        out[j] = octets[j];
+    }
 }
 
 // the seven bits from place p + 1 on, of the octet at p
@@ -119,4 +141,16 @@ pub fn spell(n: u64, octets: &mut [u8])
     for j in 0..8 {
         octets[j] = spelt[j];
     }
+}
+
+// how many octets there are from which on n octets stand
+pub fn octets_with_room(s: &[u8], n: usize) -> usize
+    requires { ⌜ length (now s) < 2 ^ 60 ⌝ }
+    ensures { λ r. ⌜ r ≡ length (now (s .entry)) + 1 - n ⌝ }
+{
+    let past = s.len() + 1;
+    if past < n {
+        return 0;
+    }
+    past - n
 }

@@ -1,57 +1,23 @@
--- Octets, and slots frame after frame, as the loops write them.
+-- Slots frame after frame, as the loops write them.
 use Prim.Native.Nat.{ℕ, _+_, _-_, _*_, _≤_, _<_}
 use mathlib.Core.Path.{_≡_, refl, sym, ap, ap₂, _∙_}
 use mathlib.Core.List.{List, [], _++_}
 use native.Mathlib.Omega.{arith}
 use borrow.Rule.Slice.PartMut.{putMid}
 use lib.ListN.{length, take, drop, set, take-append-drop}
-use lib.Seq.{take-all, take-take, take-at}
+use lib.Seq.{take-all}
 use Rattle.line.specs.Bit.{octetAt}
 use Rattle.base.specs.Tab.{tab, tabFrom}
-use Rattle.base.proofs.TabLaws.{length-tab, tab-agree, tab-split, fill-more, tab-fill}
-use Rattle.base.proofs.PartLaws.{take-put-more}
+use Rattle.base.proofs.TabLaws.{tab-agree}
 use Rattle.base.proofs.PartLaws as parts
 use Rattle.e1.specs.Frame.{frameAt, slotAt}
 use Rattle.e1.specs.Payload.{frameOf, slotOf}
 use Rattle.measure.specs.Reading.{slots, slots0}
 
--- one octet more of a table
-pub octet-more : (out : List ℕ) (j v : ℕ) (f : ℕ → ℕ) → j < length out → v ≡ f j → take j out ≡ tab j f
-    → take (j + 1) (set out j v) ≡ tab (j + 1) f
-octet-more out j v f h e t = ap (λ x. take (j + 1) (set out j x)) e ∙ fill-more out j f h t
-
-pub octets-full : (out : List ℕ) (j n : ℕ) (f : ℕ → ℕ) → j ≡ n → length out ≤ n → take j out ≡ tab j f → out ≡ tab n f
-octets-full out j n f e l t = tab-fill out n f l (rw e at t)
-
--- fewer of them
-take-fewer : (out : List ℕ) (f : ℕ → ℕ) (a c : ℕ) → a ≤ c → take c out ≡ tab c f → take a out ≡ tab a f
-take-fewer out f a c l t =
-    let e : a + (c - a) ≡ c = omega arith in
-    sym (take-take a c out l)
-    ∙ ap (take a) (t ∙ ap (λ x. tab x f) (sym e) ∙ tab-split a (c - a) f)
-    ∙ take-at (tab a f) (tab (c - a) (λ i. f (a + i))) a (length-tab a f)
-
 -- Slots 1 to 31
 
 abbrev pub octetOf : List ℕ → ℕ → ℕ → ℕ
 octetOf s q i = octetAt s (slotAt q (frameOf i) (slotOf i))
-
--- a frame's octets before c stand in xs; a run from octet a on is put back as ys
-pub run-more : (s : List ℕ) (q a c : ℕ) (xs ys : List ℕ) → a ≤ 15 → a ≤ c → a + 16 ≤ length xs
-    → ys ≡ tab 16 (λ j. octetAt s (q + 8 * (a + 1) + 8 * j))
-    → take c xs ≡ tab c (octetOf s q) → (e : ℕ) → e ≡ a + 16
-    → take e (putMid a (a + 16 - a) xs ys) ≡ tab e (octetOf s q)
-run-more s q a c xs ys h l fits y t e p =
-    let f = octetOf s q in
-    let run : ℕ → ℕ = λ j. octetAt s (q + 8 * (a + 1) + 8 * j) in
-    let same : (j : ℕ) → j < 16 → run j ≡ f (a + j) =
-    λ j k. let g : q + 8 * (a + 1) + 8 * j ≡ slotAt q (frameOf (a + j)) (slotOf (a + j)) = omega arith in ap (octetAt s) g in
-    let long : length ys ≡ a + 16 - a = ap length y ∙ length-tab 16 run ∙ omega arith in
-    ap (λ x. take x (putMid a (a + 16 - a) xs ys)) p
-    ∙ take-put-more a (a + 16) xs ys (tab a f) (omega arith) fits long (take-fewer xs f a c l t)
-    ∙ ap (λ x. tab a f ++ x) (y ∙ tab-agree 16 run (λ j. f (a + j)) same)
-    ∙ sym (tab-split a 16 f)
-    ∙ ap (λ x. tab x f) (sym p)
 
 pub slots-none : (s : List ℕ) (q : ℕ) → slots s q 0 ≡ []
 unfolding slots tabFrom

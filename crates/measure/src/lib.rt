@@ -5,9 +5,8 @@ ghost use mathlib.Core.List.{_++_};
 ghost use Prim.Native.Nat.{_+_, _-_, _*_, _^_, _<_, _≤_};
 ghost use lib.Dec.{eqb};
 ghost use lib.ListN.{length, drop};
-ghost use Rattle.line.specs.Bit.{Room, octetAt};
+ghost use Rattle.line.specs.Bit.{Room};
 ghost use Rattle.base.specs.Choice.{if_then_else_};
-ghost use Rattle.base.specs.Tab.{tab};
 ghost use Rattle.measure.specs.Reading.{lossFrom, lostAt, causeOf, usedOf, slots, payloadOf, slot0Of};
 ghost use Rattle.crc.specs.Fold.{remainders};
 ghost use Rattle.measure.specs.Track.{Runs};
@@ -146,29 +145,6 @@ pub fn track(s: &[u8], q: usize, h: usize, m: usize) -> Tracked
     }
 }
 
-// the run of 16 octets from place p on, by value: it is read whole before any of it is written
-fn run_at(s: &[u8], p: usize) -> [u8; 16]
-    requires { ⌜ Room (now s) p 128 ⌝ }
-    ensures { λ r. ⌜ r ≡ tab 16 (λ j. octetAt (now (s .entry)) (p + 8 * j)) ⌝ }
-{
-    let mut octets = [0; 16];
-    for j in 0..16 {
-        octets[j] = line::octet(s, p + 8 * j);
-    }
-    octets
-}
-
-// writes that run to `out`
-fn put_run(s: &[u8], p: usize, out: &mut [u8])
-    requires { ⌜ Room (now s) p 128 × (length (now out) ≡ 16) ⌝ }
-    ensures { λ _. ⌜ now (out .exit) ≡ tab 16 (λ j. octetAt (now (s .entry)) (p + 8 * j)) ⌝ }
-{
-    let octets = run_at(s, p);
-    for j in 0..16 {
-        out[j] = octets[j];
-    }
-}
-
 // slots 1 to 31 of the frame at q: two runs, which share slot 16
 fn put_frame(s: &[u8], q: usize, out: &mut [u8])
     requires { ⌜ Room (now s) q 256 × (length (now out) ≡ 31) ⌝ }
@@ -176,7 +152,10 @@ fn put_frame(s: &[u8], q: usize, out: &mut [u8])
 {
     for h in 0..2 {
         let a = 15 * h;
-        put_run(s, q + 8 * (a + 1), &mut out[a..a + 16]);
+        line::put_run(
+            line::run_in(s, (q >> 3) + a + 1, q & 7),
+            &mut out[a..a + 16],
+        );
     }
 }
 
