@@ -50,18 +50,18 @@ pub xors-more : (n : ℕ) (f : ℕ → ℕ) → xors (n + 1) f ≡ bitXor (xors 
 unfolding xors
 xors-more n f = rw add-one
 
-xors-ext : (n : ℕ) (f g : ℕ → ℕ) → ((i : ℕ) → f i ≡ g i) → xors n f ≡ xors n g
+pub xors-ext : (n : ℕ) (f g : ℕ → ℕ) → ((i : ℕ) → f i ≡ g i) → xors n f ≡ xors n g
 unfolding xors
 xors-ext zero f g h = refl
 xors-ext (suc n) f g h = ap₂ bitXor (xors-ext n f g h) (h n)
 
-xors-lt : (k n : ℕ) (f : ℕ → ℕ) → ((i : ℕ) → f i < 2 ^ k) → xors n f < 2 ^ k
+pub xors-lt : (k n : ℕ) (f : ℕ → ℕ) → ((i : ℕ) → f i < 2 ^ k) → xors n f < 2 ^ k
 unfolding xors
 xors-lt k zero f h = pow-pos k
 xors-lt k (suc n) f h = xor-lt k (xors n f) (f n) (xors-lt k n f h) (h n)
 
 -- a sum of fields is a field of the sum
-xors-field : (n j k : ℕ) (f : ℕ → ℕ) → xors n (λ i. f i / 2 ^ j % 2 ^ k) ≡ xors n f / 2 ^ j % 2 ^ k
+pub xors-field : (n j k : ℕ) (f : ℕ → ℕ) → xors n (λ i. f i / 2 ^ j % 2 ^ k) ≡ xors n f / 2 ^ j % 2 ^ k
 unfolding xors
 xors-field zero j k f = sym (ap (λ x. x % 2 ^ k) (div-eq-of-lt (pow-pos j)) ∙ mod-eq-of-lt (pow-pos k))
 xors-field (suc n) j k f =
@@ -69,7 +69,7 @@ xors-field (suc n) j k f =
     ∙ ap (λ x. x % 2 ^ k) (sym (xor-shr (xors n f) (f n) j))
 
 -- a sum of numbers of two parts, part by part
-xors-parts : (n k : ℕ) (f g : ℕ → ℕ) → ((i : ℕ) → g i < 2 ^ k)
+pub xors-parts : (n k : ℕ) (f g : ℕ → ℕ) → ((i : ℕ) → g i < 2 ^ k)
     → xors n (λ i. f i * 2 ^ k + g i) ≡ xors n f * 2 ^ k + xors n g
 unfolding xors
 xors-parts zero k f g h = sym (add-zero (0 * 2 ^ k) ∙ zero-mul (2 ^ k))

@@ -5,5 +5,5 @@ pub mod StripedLaws
 pub mod Digits
 pub mod Order
 pub mod WordLaws
-mod FoldLaws
+pub mod FoldLaws
 mod TableLaws

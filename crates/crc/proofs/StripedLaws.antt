@@ -1,17 +1,14 @@
 -- The laws of blocks, over their length, their stripes and the check's width.
-use Prim.Native.Nat.{ℕ, _+_, _*_, _%_, _≤_, _<_}
+use Prim.Native.Nat.{ℕ, _+_, _%_, _≤_, _<_}
 use mathlib.Core.Path.{_≡_, sym, ap, _∙_}
 use mathlib.Core.Logic.{_≢_}
 use mathlib.Core.Bool.{Bool, true, false, cond}
-use mathlib.Core.List.{_++_}
-use native.Mathlib.Nat.{mul-add-mod-self-left}
 use native.Mathlib.Decide.{ℕ-discrete, decLt}
 use native.Mathlib.Omega.{arith}
 use borrow.Author.Tests.{eq-eqb, ne-eqb}
 use lib.Dec.{eqb}
 use lib.ListN.{length, getD, List·getD-eq-default}
-use Rattle.base.specs.Tab.{tab}
-use Rattle.base.proofs.TabLaws.{length-tab, getD-tab, tab-agree, tab-split}
+use Rattle.base.proofs.TabLaws.{length-tab, getD-tab, tab-agree}
 use Rattle.line.proofs.SpeltLaws.{Binary}
 use Rattle.crc.specs.Remainder.{check, Bits}
 use Rattle.crc.proofs.Laws.{tab-bits, burst-same}
@@ -33,16 +30,6 @@ module _ (d b : ℕ) where
       go : (t : Bool) → cond t b (f i) < 2
       go true = hb
       go false = h i
-
-  -- d * k bits, and m more
-  pub striped-add : (k m : ℕ) (f : ℕ → ℕ)
-      → striped (d * k + m) d b f ≡ striped (d * k) d b f ++ striped m d b (λ i. f (d * k + i))
-  unfolding readAs striped
-  striped-add k m f =
-      tab-split (d * k) m (readAs d b f)
-      ∙ ap (λ l. tab (d * k) (readAs d b f) ++ l)
-      (tab-agree m (λ i. readAs d b f (d * k + i)) (readAs d b (λ i. f (d * k + i)))
-      (λ i h. ap (λ x. cond (eqb x 0) b (f (d * k + i))) (mul-add-mod-self-left d k i)))
 
   module _ (n : ℕ) where
     pub striped-length : (f : ℕ → ℕ) → length (striped n d b f) ≡ n

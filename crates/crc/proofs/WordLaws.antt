@@ -13,7 +13,7 @@ use Rattle.line.proofs.BitLaws.{shifts-join}
 use Rattle.crc.specs.Remainder.{zeros, step, after}
 use Rattle.crc.specs.Fold.{Lowers}
 use Rattle.crc.specs.Word.{remainder}
-use Rattle.crc.proofs.Laws.{after-append, after-lt, step-lt, step-one, step-shift}
+use Rattle.crc.proofs.Laws.{after-append, after-lt, step-lt, step-shift}
 use Rattle.crc.proofs.Digits.{digits, digits-bits, digits-add, digits-low, digits-linear, digits-none}
 use Rattle.crc.proofs.Order.{order-6, zeros-back, zeros-lowered}
 
@@ -128,11 +128,6 @@ word-behind : (r v : ℕ) → r < 64 → after 6 r (digits 64 v) ≡ bitXor (ste
 word-behind r v h =
     digits-behind 6 (lit≤ tt) r 64 v h ∙ ap (λ x. bitXor x (remainder 6 64 v)) (word-zeros r h)
 
-one-behind : (r : ℕ) → r < 64 → after 6 r (digits 64 1) ≡ step 6 r 1
-one-behind r h =
-    word-behind r 1 h ∙ ap (bitXor (step 6 r 0)) (remainder-own 6 (lit≤ tt) 64 1 (lit≤ tt) (lit< tt))
-    ∙ sym (step-one 6 (lit≤ tt) r h)
-
 -- two words
 module _ (h l : ℕ) (hh : h < 2 ^ 63) (hl : l < 2 ^ 64) where
   abbrev z : ℕ
@@ -162,10 +157,6 @@ module _ (h l : ℕ) (hh : h < 2 ^ 63) (hl : l < 2 ^ 64) where
       ap (remainder 6 128) (both-twice v hv) ∙ remainder-sum 6 (lit≤ tt) 128 (2 * z) v
       ∙ ap₂ bitXor (remainder-twice 6 (lit≤ tt) 127 z both-lt) (remainder-wider 6 (lit≤ tt) 64 128 v (lit≤ tt) hv)
       ∙ sym (word-behind (remainder 6 128 z) v (remainder-lt 6 (lit≤ tt) 128 z))
-
-  pub words-one : remainder 6 128 (bitOr (h * 2 % 2 ^ 64) (l / 2 ^ 63) * 2 ^ 64 + bitXor (l * 2 % 2 ^ 64) 1)
-      ≡ step 6 (remainder 6 128 z) 1
-  words-one = words-behind 1 (lit< tt) ∙ one-behind (remainder 6 128 z) (remainder-lt 6 (lit≤ tt) 128 z)
 
   -- made one
   pub words-narrowed : remainder 6 64 (bitXor (h * 2 % 2 ^ 64) l) ≡ remainder 6 128 z

@@ -1,4 +1,4 @@
--- For private functions alone. What blocks and words are folded with.
+-- For private functions alone, and for `fold::windows`, which those of T1 use. What blocks and words are folded with.
 use Prim.Native.Nat.{ℕ, zero, suc}
 use mathlib.Core.Path.{_≡_}
 use mathlib.Core.List.{List}

@@ -9,14 +9,14 @@ ghost use Rattle.line.specs.Spelt.{digit};
 ghost use Rattle.crc.specs.Remainder.{after};
 ghost use Rattle.crc.specs.Fold.{remainders, xors};
 
-// the windows at octet i of all rows, added up
-fn windows(s: &[u8], i: usize) -> u64
-    requires { ⌜ i + 248 ≤ length (now s) ⌝ }
-    ensures { λ x. ⌜ x ≡ xors 17 (λ k. field (now (s .entry)) (8 * (i + 15 * k)) 64) ⌝ }
+// n windows added up, the first at octet i and each d octets on
+pub fn windows(s: &[u8], i: usize, n: usize, d: usize) -> u64
+    requires { ⌜ i + d * n + 8 ≤ length (now s) + d ⌝ }
+    ensures { λ x. ⌜ x ≡ xors n (λ k. field (now (s .entry)) (8 * (i + d * k)) 64) ⌝ }
 {
     let mut x: u64 = 0;
-    for k in 0..17 {
-        x = x ^ line::window(s, i + 15 * k);
+    for k in 0..n {
+        x = x ^ line::window(s, i + d * k);
     }
     x
 }
@@ -37,8 +37,8 @@ fn folded(s: &[u8], q: usize) -> u64
 {
     let i = q >> 3;
     let c = 8 - (q & 7);
-    let a = windows(s, i);
-    let b = windows(s, i + 8);
+    let a = windows(s, i, 17, 15);
+    let b = windows(s, i + 8, 17, 15);
     fifteen(a >> c, (a << (64 - c)) | (b >> c))
 }
 

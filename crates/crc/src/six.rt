@@ -4,7 +4,7 @@ ghost use mathlib.Core.Path.{_≡_};
 ghost use Prim.Native.Nat.{ℕ, _+_, _*_, _/_, _^_, _<_, _≤_};
 ghost use Rattle.base.specs.Tab.{tab};
 ghost use Rattle.line.specs.Spelt.{digit};
-ghost use Rattle.crc.specs.Remainder.{zeros, step, after};
+ghost use Rattle.crc.specs.Remainder.{zeros, after};
 ghost use Rattle.crc.specs.Fold.{Lowers};
 ghost use Rattle.crc.specs.Word.{remainder, wideRemainder};
 
@@ -14,18 +14,7 @@ pub struct Wide {
     pub low: u64,
 }
 
-// after a 1: twice the number, and 1
-pub fn after_one(a: Wide) -> Wide
-    requires { ⌜ a .high < 2 ^ 63 ⌝ }
-    ensures { λ r. ⌜ (wideRemainder 6 r ≡ step 6 (wideRemainder 6 a) 1) × (r .high ≤ 2 * a .high + 1) ⌝ }
-{
-    Wide {
-        high: (a.high << 1) | (a.low >> 63),
-        low: (a.low << 1) ^ 1,
-    }
-}
-
-// after the 64 digits of w: twice the number too, as x^64 counts for x
+// after the 64 digits of w: twice the number, as x^64 counts for x
 pub fn after_word(a: Wide, w: u64) -> Wide
     requires { ⌜ a .high < 2 ^ 63 ⌝ }
     ensures { λ r. ⌜ (wideRemainder 6 r ≡ after 6 (wideRemainder 6 a) (tab 64 (digit 64 w)))

@@ -60,7 +60,7 @@ pub low-bit : (x j k : ℕ) → bitOf x k ≡ bitOf (x % 2 ^ (j + 1 + k)) k
 low-bit x j k = sym (ap (λ a. a % 2) (pow.field x (j + 1) k) ∙ mod-mod-pow (x / 2 ^ k) j 1)
 
 -- `x << k` of m bits: bit n goes to n + k
-moved-bit : (x n k m : ℕ) → n + k < m → bitOf (x * 2 ^ k % 2 ^ m) (n + k) ≡ bitOf x n
+pub moved-bit : (x n k m : ℕ) → n + k < m → bitOf (x * 2 ^ k % 2 ^ m) (n + k) ≡ bitOf x n
 moved-bit x n k m h =
     let e : m - (n + k) - 1 + 1 + (n + k) ≡ m = omega arith in
     ap (λ j. bitOf (x * 2 ^ k % 2 ^ j) (n + k)) (sym e)

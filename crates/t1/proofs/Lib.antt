@@ -1,2 +1,6 @@
 pub mod Laws
-mod Frames
+pub mod Powers
+pub mod Slides
+pub mod Lacking
+mod Checked
+mod RawLaws

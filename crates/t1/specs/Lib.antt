@@ -1,2 +1,3 @@
 pub mod Superframe
 pub mod Payload
+pub mod Raw

@@ -1,59 +1,58 @@
-// Superframes of a T1 line: their check, and the check that they carry.
+// Superframes of a T1 line: their framing bits, the check that they carry, and their own.
+pub mod raw;
+
 ghost use mathlib.Core.Path.{_≡_};
-ghost use Prim.Native.Nat.{_+_, _*_, _^_, _<_, _≤_};
+ghost use mathlib.Core.List.{List};
+ghost use Prim.Native.Nat.{ℕ, _+_, _*_, _^_, _<_, _≤_};
 ghost use lib.ListN.{length};
-ghost use Rattle.line.specs.Bit.{Room};
-ghost use Rattle.crc.specs.Remainder.{after};
-ghost use Rattle.crc.specs.Word.{remainder, wideRemainder};
-ghost use Rattle.crc.specs.Striped.{striped};
-ghost use Rattle.t1.specs.Superframe.{carried, checkOf};
-ghost use Rattle.t1.specs.Payload.{dataBit, sized};
+ghost use Rattle.t1.specs.Superframe.{carried, superCheck};
+ghost use Rattle.t1.specs.Payload.{sized};
+ghost use Rattle.t1.specs.Raw.{raw, framingOf, fourth};
 
-// after a frame, its framing bit read as 1, with these 24 octets
-fn after_frame(octets: &[u8], a: crc::six::Wide) -> crc::six::Wide
-    requires { ⌜ (length (now octets) ≡ 24) × (a .high < 2 ^ 59) ⌝ }
-    ensures { λ r. ⌜ (wideRemainder 6 r ≡ after 6 (wideRemainder 6 a) (striped 193 193 1 (dataBit (now (octets .entry)))))
-        × (r .high ≤ 16 * a .high + 15) ⌝ }
+// the framing bits of the superframe that begins at bit o of octet i, as a number, the first the highest
+pub fn framing(s: &[u8], i: usize, o: usize) -> u64
+    requires { ⌜ (8 * i + o + 4632 ≤ 8 * length (now s)) × (o < 8) ⌝ }
+    ensures { λ r. ⌜ (r ≡ framingOf (now (s .entry)) (8 * i + o)) × (r < 2 ^ 24) ⌝ }
 {
-    let framing = crc::six::after_one(a);
-    let first = crc::six::after_word(framing, line::window(octets, 0));
-    let second = crc::six::after_word(first, line::window(octets, 8));
-    crc::six::after_word(second, line::window(octets, 16))
-}
-
-// after twelve frames with these 288 octets
-fn after_half(octets: &[u8], a: u64) -> u64
-    requires { ⌜ length (now octets) ≡ 288 ⌝ }
-    ensures { λ r. ⌜ remainder 6 64 r ≡ after 6 (remainder 6 64 a) (striped 2316 193 1 (dataBit (now (octets .entry)))) ⌝ }
-{
-    let mut b = crc::six::Wide { high: 0, low: a };
-    for f in 0..12 {
-        let i = 24 * f;
-        b = after_frame(&octets[i..i + 24], b);
+    let mut bits = 0;
+    for f in 0..24 {
+        bits = 2 * bits + ((line::window(s, i + 24 * f) << (o + f)) >> 63);
     }
-    crc::six::narrowed(b)
+    bits
 }
 
-// the check of a superframe, known from its 576 octets
-pub fn check_of(octets: &[u8]) -> u64
-    requires { ⌜ length (now octets) ≡ 576 ⌝ }
-    ensures { λ r. ⌜ (r ≡ checkOf (dataBit (now (octets .entry)))) × (r < 64) ⌝ }
+// C1 to C6, from the framing bits of the superframe that carries them
+pub fn carried_by(framing: u64) -> u64
+    ensures { λ r. ⌜ ((s : List ℕ) (q : ℕ) → framing ≡ framingOf s q → r ≡ carried s q) × (r < 64) ⌝ }
 {
-    let half = after_half(&octets[0..288], 0);
-    let whole = after_half(&octets[288..576], half);
-    crc::six::after_zeros(crc::six::reduced(whole))
-}
-
-// C1 to C6, as the superframe at q carries them
-pub fn carried(s: &[u8], q: usize) -> u64
-    requires { ⌜ Room (now s) q 4632 ⌝ }
-    ensures { λ r. ⌜ r ≡ carried (now (s .entry)) q ⌝ }
-{
-    let mut c: u64 = 0;
+    let mut c = 0;
     for i in 0..6 {
-        c = 2 * c + line::bit(s, q + 193 * (4 * i + 1)) as u64;
+        let below: usize = 22 - 4 * i;
+        c = 2 * c + (framing >> below) % 2;
     }
     c
+}
+
+// the digits of a remainder four apart
+fn fourth(r: u64) -> u64
+    ensures { λ x. ⌜ (x ≡ fourth r) × (x < 2 ^ 21) ⌝ }
+{
+    r % 2
+        + 16 * (r / 2 % 2)
+        + 256 * (r / 4 % 2)
+        + 4096 * (r / 8 % 2)
+        + 65536 * (r / 16 % 2)
+        + 1048576 * (r / 32 % 2)
+}
+
+// the check of a superframe, from the remainder of its bits as they are and from its framing bits: those that are 0 are
+// added, a frame counting for x^193, which is x^4, and the 192 bits behind the last for x^3
+pub fn check_by(at: u64, framing: u64) -> u64
+    requires { ⌜ (at < 64) × (framing < 2 ^ 24) ⌝ }
+    ensures { λ r. ⌜ ((s : List ℕ) (q : ℕ) → at ≡ raw s q → framing ≡ framingOf s q → r ≡ superCheck s q) × (r < 64) ⌝ }
+{
+    let lacking = fourth(crc::six::reduced(16777215 - framing));
+    crc::six::after_zeros(crc::six::reduced(at ^ (8 * lacking)))
 }
 
 // so many octets are a payload of 1 to 14 superframes

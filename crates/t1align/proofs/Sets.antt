@@ -1,22 +1,26 @@
--- Sets of places as numbers: what `&`, `!` and shifts leave in them, exactly, and their first place.
+-- Sets of places as numbers: what `&`, `|`, `!` and shifts leave in them, exactly, and their first place.
 use Prim.Native.Nat.{ℕ, zero, suc, _+_, _-_, _*_, _/_, _%_, _^_, _<_}
 use mathlib.Core.Path.{_≡_, refl, sym, ap, _∙_}
 use mathlib.Core.List.{List}
-use mathlib.Core.Logic.{_↔_, inl, inr}
-use native.Mathlib.Nat.{pow-suc, eq-or-lt-of-le, le-of-suc-le-suc}
+use mathlib.Core.Logic.{_↔_}
+use native.Mathlib.Nat.{pow-suc}
 use native.Mathlib.Omega.{arith}
-use lib.Bits.{bitAnd, and-shr, and-mod, and-le-l, and-le-r}
+use lib.Bits.{bitAnd, bitOr, or-lt, and-shr, and-mod, and-le-l, and-le-r}
 use lib.Count.{leadingZeros, leading-top, leading-of-zero}
 use lib.ListN.{getD}
 use lib.Pow.{high}
 use Rattle.line.specs.Bit.{bitAt, field}
 use Rattle.line.specs.Signal.{signal}
 use Rattle.line.specs.Window.{turned, bitOf, One}
-use Rattle.line.proofs.WindowLaws.{and-one, leading-one, unturned, turned-at, bit-at, zero-none}
+use Rattle.line.proofs.WindowLaws.{and-one, or-zero, leading-one, unturned, turned-at, bit-at, zero-none}
 use Rattle.t1.specs.Superframe.{framingAt}
 use Rattle.t1sliced.specs.Sliced.{Exactly}
-use Rattle.t1sliced.proofs.Bitwise.{not-bit, shl-bit}
+use Rattle.t1sliced.proofs.Bitwise.{or-bits, or-none, not-bit, shl-bit}
 use Rattle.t1align.specs.Window.{HalfFramed}
+
+-- what holds exactly if two facts do, with these said otherwise
+both-ways : {A B C P Q : Type 0} → A ↔ B × C → B ↔ P → C ↔ Q → A ↔ P × Q
+both-ways h p q = (λ a. let b = h .0 a in (p .0 (b .0), q .0 (b .1)), λ w. h .1 (p .1 (w .0), q .1 (w .1)))
 
 -- `&`
 one-and : (x y n : ℕ) → One (bitAnd x y) n ↔ One x n × One y n
@@ -28,63 +32,59 @@ one-and x y n = (there, λ h. and-one x y n (h .0) (h .1))
         = sym (ap (λ a. a % 2) (and-shr x y n) ∙ and-mod (x / 2 ^ n) (y / 2 ^ n) 1) ∙ e in
         (omega (arith, and-le-l (bitOf x n) (bitOf y n)), omega (arith, and-le-r (bitOf x n) (bitOf y n)))
 
--- ones where x has the bit b
-abbrev pub wanted : ℕ → ℕ → ℕ
-wanted zero x = 2 ^ 64 - 1 - x
-wanted (suc b) x = x
+-- `!` of `|`
+one-neither : (x y n : ℕ) → x < 2 ^ 64 → y < 2 ^ 64 → n < 64
+    → One (2 ^ 64 - 1 - bitOr x y) n ↔ (bitOf x n ≡ 0) × (bitOf y n ≡ 0)
+one-neither x y n h g l =
+    let e = not-bit (bitOr x y) n 64 (or-lt 64 x y h g) l in
+    (λ o. or-none (bitOf x n) (bitOf y n) (sym (or-bits x y n) ∙ omega arith), λ z. omega (arith, or-zero x y n (z .0) (z .1)))
 
-one-wanted : (b x n : ℕ) → b < 2 → x < 2 ^ 64 → n < 64 → One (wanted b x) n ↔ bitOf x n ≡ b
-one-wanted zero x n h g l = let e = not-bit x n 64 g l in (λ o. omega arith, λ o. omega arith)
-one-wanted (suc zero) x n h g l = (λ o. o, λ o. o)
-one-wanted (suc (suc b)) x n h g l = absurd (omega arith)
+-- a bit of the signal, number k of its half e, in the superframe at q
+abbrev pub HasBit : ℕ → List ℕ → ℕ → ℕ → Type 0
+HasBit e s k q = bitAt s (framingAt q (4 * (2 * k + e) + 3)) ≡ getD signal (2 * k + e) 0
 
--- ones where all of f 0 to f n have one
-abbrev pub allTo : ℕ → (ℕ → ℕ) → ℕ
-allTo zero f = f 0
-allTo (suc n) f = bitAnd (allTo n f) (f (suc n))
+pub half-of-bits : (e : ℕ) (s : List ℕ) (q : ℕ) → HasBit e s 0 q → HasBit e s 1 q → HasBit e s 2 q → HalfFramed e s q
+half-of-bits e s q a b c zero h = a
+half-of-bits e s q a b c (suc zero) h = b
+half-of-bits e s q a b c (suc (suc zero)) h = c
+half-of-bits e s q a b c (suc (suc (suc k))) h = absurd (omega arith)
 
-one-all : (n : ℕ) (f : ℕ → ℕ) (p : ℕ) → One (allTo n f) p ↔ ((k : ℕ) → k < suc n → One (f k) p)
-one-all zero f p = (λ e k h. let z : k ≡ 0 = omega arith in rw z e, λ h. h 0 (omega arith))
-one-all (suc n) f p = (
-  λ e k h.
-      let b = one-and (allTo n f) (f (suc n)) p .0 e in
-      elim (eq-or-lt-of-le (le-of-suc-le-suc h)) [ inl q ↦ rw q (b .1) | inr l ↦ one-all n f p .0 (b .0) k l ],
-  λ h. one-and (allTo n f) (f (suc n)) p .1 (one-all n f p .1 (λ k l. h k (omega arith)), h (suc n) (omega arith)),
-)
+-- Eight octets as a number, not turned yet, in which the bit of place o lies d bits on.
+module _ (d : ℕ) (low : d < 8) where
+  -- it is b where P holds, and nowhere else
+  abbrev pub Where : ℕ → (ℕ → Type 0) → ℕ → Type 0
+  Where b P x = (o : ℕ) → o < 56 → (bitOf x (unturned (63 - (o + d))) ≡ b ↔ P o)
 
--- In a part s: six windows x 0 to x 5, 193 octets apart from octet j on, in which half the signal's bits lie d bits on.
-module _ (s : List ℕ) (e j d : ℕ) (at : 193 * (4 * e + 3) ≡ 8 * j + d) (low : d < 8) (x : ℕ → ℕ)
-    (few : (k : ℕ) → k < 6 → x k < 2 ^ 64)
-    (window : (k : ℕ) → k < 6 → turned 8 (x k) ≡ field s (8 * (j + 193 * k)) 64) where
-  -- bit k of these, at place o
-  half-bit : (o k : ℕ) → o < 56 → k < 6
-      → bitOf (x k) (unturned (63 - (o + d))) ≡ bitAt s (framingAt o (4 * (2 * k + e) + 3))
-  half-bit o k h l =
-      sym (turned-at (x k) (63 - (o + d)) (omega arith))
-      ∙ bit-at s (8 * (j + 193 * k)) (o + d) (63 - (o + d)) _ (window k l) (omega arith)
-      ∙ ap (bitAt s) (omega arith)
+  -- the window at octet j has bit k of a half, of the superframe that is at q o for the place o
+  pub where-bit : (s : List ℕ) (e k : ℕ) (q : ℕ → ℕ) (j x : ℕ)
+      → ((o : ℕ) → framingAt (q o) (4 * (2 * k + e) + 3) ≡ 8 * j + (o + d)) → turned 8 x ≡ field s (8 * j) 64
+      → Where (getD signal (2 * k + e) 0) (λ o. HasBit e s k (q o)) x
+  where-bit s e k q j x at window o h =
+      let same : bitOf x (unturned (63 - (o + d))) ≡ bitAt s (framingAt (q o) (4 * (2 * k + e) + 3))
+      = sym (turned-at x (63 - (o + d)) (omega arith)) ∙ bit-at s (8 * j) (o + d) (63 - (o + d)) _ window (omega arith)
+      ∙ ap (bitAt s) (sym (at o)) in
+      (λ w. sym same ∙ w, λ w. same ∙ w)
 
-  pub half-exactly : ((k : ℕ) → k < 6 → getD signal (2 * (k % 3) + e) 0 < 2)
-      → Exactly (HalfFramed e s) (turned 8 (allTo 5 (λ k. wanted (getD signal (2 * (k % 3) + e) 0) (x k))) * 2 ^ d % 2 ^ 64)
-  half-exactly bit o h =
-      let f : ℕ → ℕ = λ k. wanted (getD signal (2 * (k % 3) + e) 0) (x k) in
-      let n = 63 - (o + d) in
-      let z : 63 - o - d ≡ n = omega arith in
-      let same : bitOf (turned 8 (allTo 5 f) * 2 ^ d % 2 ^ 64) (63 - o) ≡ bitOf (allTo 5 f) (unturned n)
-      = shl-bit (turned 8 (allTo 5 f)) d (63 - o) (omega arith) (omega arith) ∙ ap (bitOf (turned 8 (allTo 5 f))) z
-      ∙ turned-at (allTo 5 f) n (omega arith) in
-      let one : (k : ℕ) → k < 6 → One (f k) (unturned n) ↔ bitOf (x k) (unturned n) ≡ getD signal (2 * (k % 3) + e) 0
-      = λ k l. one-wanted (getD signal (2 * (k % 3) + e) 0) (x k) (unturned n) (bit k l) (few k l) (omega arith) in (
-        λ w k l. sym (half-bit o k h l) ∙ one k l .0 (one-all 5 f (unturned n) .0 (sym same ∙ w) k l),
-        λ w. same ∙ one-all 5 f (unturned n) .1 (λ k l. one k l .1 (half-bit o k h l ∙ w k l)),
-      )
+  pub where-both : (P Q : ℕ → Type 0) (x y : ℕ) → Where 1 P x → Where 1 Q y → Where 1 (λ o. P o × Q o) (bitAnd x y)
+  where-both P Q x y h g o l = both-ways (one-and x y (unturned (63 - (o + d)))) (h o l) (g o l)
+
+  pub where-neither : (P Q : ℕ → Type 0) (x y : ℕ) → x < 2 ^ 64 → y < 2 ^ 64 → Where 0 P x → Where 0 Q y
+      → Where 1 (λ o. P o × Q o) (2 ^ 64 - 1 - bitOr x y)
+  where-neither P Q x y fits fits′ h g o l =
+      both-ways (one-neither x y (unturned (63 - (o + d))) fits fits′ (omega arith)) (h o l) (g o l)
+
+  -- turned and moved, it is a set
+  pub where-exactly : (P : ℕ → Type 0) (x : ℕ) → Where 1 P x → Exactly P (turned 8 x * 2 ^ d % 2 ^ 64)
+  where-exactly P x h o l =
+      let z : 63 - o - d ≡ 63 - (o + d) = omega arith in
+      let same : bitOf (turned 8 x * 2 ^ d % 2 ^ 64) (63 - o) ≡ bitOf x (unturned (63 - (o + d)))
+      = shl-bit (turned 8 x) d (63 - o) (omega arith) (omega arith) ∙ ap (bitOf (turned 8 x)) z
+      ∙ turned-at x (63 - (o + d)) (omega arith) in
+      (λ e. h o l .0 (sym same ∙ e), λ w. same ∙ h o l .1 w)
 
 -- what both sets have
 pub both-exactly : (P Q : ℕ → Type 0) (x y : ℕ) → Exactly P x → Exactly Q y → Exactly (λ o. P o × Q o) (bitAnd x y)
-both-exactly P Q x y h g o l = (
-  λ e. let b = one-and x y (63 - o) .0 e in (h o l .0 (b .0), g o l .0 (b .1)),
-  λ w. one-and x y (63 - o) .1 (h o l .1 (w .0), g o l .1 (w .1)),
-)
+both-exactly P Q x y h g o l = both-ways (one-and x y (63 - o)) (h o l) (g o l)
 
 -- an empty set has no place
 pub none-exactly : (P : ℕ → Type 0) (x : ℕ) → x ≡ 0 → Exactly P x → (o : ℕ) → o < 56 → P o → ⊥
@@ -108,5 +108,6 @@ module _ (P : ℕ → Type 0) (x : ℕ) (few : x < 2 ^ 64) (h : Exactly P x) whe
           let one : x / 2 ^ t .0 ≡ 1 = ap (λ a. a / 2 ^ t .0) (sym y) ∙ high 1 (t .0) (omega (arith, t .2, t .3)) in
           rw (k, one)
 
-pub as-exactly : (P Q : ℕ → Type 0) → ((o : ℕ) → P o ↔ Q o) → (x : ℕ) → Exactly P x → Exactly Q x
-as-exactly P Q e x h o l = (λ w. e o .0 (h o l .0 w), λ w. h o l .1 (e o .1 w))
+-- a set of the places with P is one of those with Q
+pub as-exactly : (P Q : ℕ → Type 0) → ((o : ℕ) → o < 56 → P o ↔ Q o) → (x : ℕ) → Exactly P x → Exactly Q x
+as-exactly P Q e x h o l = (λ w. e o l .0 (h o l .0 w), λ w. h o l .1 (e o l .1 w))

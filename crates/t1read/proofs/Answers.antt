@@ -1,35 +1,17 @@
 -- What is measured from the place that is found, and the answer made of it.
 use Prim.Native.Nat.{ℕ, _+_, _-_, _*_, _/_, _≤_}
 use mathlib.Core.Path.{_≡_, sym, ap, ap₂, _∙_}
-use mathlib.Core.Bool.{not}
-use mathlib.Core.List.{List, _++_, append-assoc}
+use mathlib.Core.List.{List, _++_}
 use mathlib.Core.Option.{some}
 use native.Mathlib.Omega.{arith}
-use lib.ListN.{length, take, drop}
-use lib.Seq.{take-at}
-use Rattle.base.specs.Tab.{tab, count}
-use Rattle.base.proofs.TabLaws.{length-tab, tab-split}
+use lib.ListN.{length, drop}
 use Rattle.base.proofs.AnswerLaws.{accepted-so}
 use Rattle.line.specs.Bit.{Room}
-use Rattle.t1.specs.Superframe.{agrees}
 use Rattle.t1align.specs.Place.{firstStanding}
-use Rattle.t1read.specs.Reading.{whole, octetOf, payloadOf, linkOf, compared, errored}
+use Rattle.t1read.specs.Reading.{whole, payloadOf, linkOf, compared, errored}
 use Rattle.t1read.specs.Entry.{GoodLength, placeIn, wholeIn, refusal, accept, refuse, reading, Read}
 use Rattle.t1read.specs.declared.Reading.{Reading}
 use Rattle.t1read.proofs.EntryLaws.{place-is, whole-is}
-
--- the payload of m superframes stands in front of that of more
-pub payload-front : (s : List ℕ) (q m k n : ℕ) (payload' rest : List ℕ) → n ≡ m + k → payload' ≡ payloadOf s q n ++ rest
-    → take (576 * m) payload' ≡ payloadOf s q m
-unfolding payloadOf
-payload-front s q m k n payload' rest h e =
-    let d : 576 * n ≡ 576 * m + 576 * k = omega arith in
-    let f = octetOf s q in
-    let later = tab (576 * k) (λ i. f (576 * m + i)) in
-    ap (take (576 * m))
-    (e ∙ ap (λ x. tab x f ++ rest) d ∙ ap (λ x. x ++ rest) (tab-split (576 * m) (576 * k) f)
-    ∙ append-assoc (tab (576 * m) f) later rest)
-    ∙ take-at (tab (576 * m) f) (later ++ rest) (576 * m) (length-tab (576 * m) f)
 
 pub record Measured (s : List ℕ) (p m : ℕ) : Type 0 where
   pub at : p ≡ placeIn s
@@ -53,7 +35,7 @@ module _ (s : List ℕ) (good : GoodLength s) (p : ℕ) (e : firstStanding s ≡
 
   pub answered : (payload link payload' link' : List ℕ) (n : ℕ)
       → refusal s (length payload) (length link) ≡ 0
-      → n ≡ count (m - 1) (λ b. not (agrees s (p + 4632 * b)))
+      → n ≡ errored s p m
       → payload' ≡ payloadOf s p m ++ drop (576 * m) payload
       → link' ≡ linkOf s p m ++ drop (12 * m) link
       → Read s payload link (record { number = 0; place = p; whole = m; compared = m - 1; errored = n }) payload' link'

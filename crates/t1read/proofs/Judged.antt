@@ -1,59 +1,53 @@
--- A superframe whose payload has been read is judged by its octets there.
-use Prim.Native.Nat.{ℕ, _+_, _-_, _*_, _/_, _%_, _^_, _<_}
+-- The data link of a superframe, from its framing bits, and whether it agrees.
+use Prim.Native.Nat.{ℕ, _+_, _-_, _*_, _≤_, _<_}
 use mathlib.Core.Path.{_≡_, sym, ap, ap₂, _∙_}
-use mathlib.Core.Logic.{_≢_}
 use mathlib.Core.List.{List}
 use native.Mathlib.Omega.{arith}
+use borrow.Rule.Slice.PartMut.{putMid}
 use lib.Dec.{eqb}
-use lib.ListN.{getD, take, drop}
-use lib.Seq.{getD-take}
-use Rattle.base.proofs.TabLaws.{getD-tab}
-use Rattle.line.specs.Bit.{bitAt, field}
-use Rattle.line.proofs.BitLaws.{bit-in, bit-of-field}
-use Rattle.t1.specs.Superframe.{octetPlace, carried, checkOf, agrees}
-use Rattle.t1.specs.Payload.{dataBit}
-use Rattle.t1.proofs.Laws.{check-of-agree, bit-part}
-use Rattle.t1read.specs.Reading.{octetOf, payloadOf}
+use lib.ListN.{length, take, drop}
+use Rattle.base.specs.Tab.{tab}
+use Rattle.base.proofs.TabLaws.{tab-agree}
+use Rattle.base.proofs.PartLaws.{part-more, part-rest}
+use Rattle.line.specs.Bit.{bitAt}
+use Rattle.line.specs.Spelt.{digit}
+use Rattle.line.proofs.BitLaws.{bit-lt}
+use Rattle.line.proofs.SpeltLaws.{digit-spelt}
+use Rattle.t1.specs.Superframe.{superCheck, carried, agrees}
+use Rattle.t1.specs.Raw.{framingOf}
+use Rattle.t1read.specs.Reading.{linkBit}
 
-module _ (s payload : List ℕ) (q m : ℕ) (e : take (576 * m) payload ≡ payloadOf s q m) where
-  octet-read : (k : ℕ) → k < 576 * m → getD payload k 0 ≡ octetOf s q k
-  unfolding payloadOf
-  octet-read k h =
-      sym (getD-take (576 * m) payload k 0 h) ∙ ap (λ x. getD x k 0) e ∙ getD-tab (576 * m) (octetOf s q) k 0 h
+-- the data link of superframe b is put at octet a of the output
+module _ (s : List ℕ) (q b a framing : ℕ) (xs ys : List ℕ) (here : a ≡ 12 * b) (fits : a + 12 ≤ length xs)
+    (e : framing ≡ framingOf s (q + 4632 * b)) (y : ys ≡ tab 12 (λ k. digit 24 framing (2 * k))) where
+  link-bit : (k : ℕ) → k < 12 → digit 24 framing (2 * k) ≡ linkBit s q (a + k)
+  unfolding framingOf
+  link-bit k h =
+      let p : q + 4632 * b + 193 * (2 * k) ≡ q + 193 * (2 * (a + k)) = omega arith in
+      ap (λ x. digit 24 x (2 * k)) e
+      ∙ digit-spelt 24 (2 * k) (λ f. bitAt s (q + 4632 * b + 193 * f)) (λ f. bit-lt s (q + 4632 * b + 193 * f)) (omega arith)
+      ∙ ap (bitAt s) p
 
-  bit-read : (k o : ℕ) → k < 576 * m → o < 8 → bitAt payload (8 * k + o) ≡ bitAt s (octetPlace q (k / 24) (k % 24) + o)
-  bit-read k o h l =
-      let p = octetPlace q (k / 24) (k % 24) in
-      let n : o + 1 + (7 - o) ≡ 8 = omega arith in
-      bit-in payload k o l ∙ ap (λ x. x / 2 ^ (7 - o) % 2) (octet-read k h ∙ ap (field s p) (sym n)) ∙ bit-of-field s p o (7 - o)
+  link-part : ys ≡ tab (a + 12 - a) (λ k. linkBit s q (a + k))
+  link-part =
+      let n : 12 ≡ a + 12 - a = omega arith in
+      y ∙ tab-agree 12 (λ k. digit 24 framing (2 * k)) (λ k. linkBit s q (a + k)) link-bit
+      ∙ ap (λ m. tab m (λ k. linkBit s q (a + k))) n
 
-  -- bit d of the octets of frame f
-  frame-read : (f d : ℕ) → f < 24 * m → d < 192 → bitAt payload (192 * f + d) ≡ bitAt s (q + 193 * f + 1 + d)
-  frame-read f d h l =
-      let k : ℕ = 24 * f + d / 8 in
-      let a : 192 * f + d ≡ 8 * k + d % 8 = omega arith in
-      let u : k / 24 ≡ f = omega arith in
-      let v : k % 24 ≡ d / 8 = omega arith in
-      let z : q + 193 * f + 1 + 8 * (d / 8) + d % 8 ≡ q + 193 * f + 1 + d = omega arith in
-      ap (bitAt payload) a ∙ bit-read k (d % 8) (omega arith) (omega arith)
-      ∙ ap₂ (λ x y. bitAt s (octetPlace q x y + d % 8)) u v ∙ ap (bitAt s) z
+  abbrev put : List ℕ
+  put = putMid a (a + 12 - a) xs ys
 
-  data-read : (b i : ℕ) → b < m → i < 4632 → i % 193 ≢ 0
-      → dataBit (take (576 * b + 576 - 576 * b) (drop (576 * b) payload)) i ≡ bitAt s (q + 4632 * b + i)
-  unfolding dataBit
-  data-read b i h l z =
-      let f : ℕ = i / 193 in
-      let d : ℕ = i % 193 - 1 in
-      let a : 8 * (576 * b) + (192 * f + d) ≡ 192 * (24 * b + f) + d = omega arith in
-      let w : q + 193 * (24 * b + f) + 1 + d ≡ q + 4632 * b + i = omega arith in
-      bit-part payload (576 * b) (576 * b + 576 - 576 * b) (192 * f + d) (omega arith)
-      ∙ ap (bitAt payload) a ∙ frame-read (24 * b + f) d (omega arith) (omega arith) ∙ ap (bitAt s) w
+  pub link-more : (m : ℕ) → m ≡ a + 12 → take a xs ≡ tab a (linkBit s q) → take m put ≡ tab m (linkBit s q)
+  link-more m n t =
+      ap (λ k. take k put) n ∙ part-more (linkBit s q) a (a + 12) xs ys (omega arith) fits link-part t
+      ∙ ap (λ k. tab k (linkBit s q)) (sym n)
 
-  -- it agrees where its check is the one that is carried
-  pub judged : (b : ℕ) → b < m → (x y : ℕ) → x ≡ checkOf (dataBit (take (576 * b + 576 - 576 * b) (drop (576 * b) payload)))
-      → y ≡ carried s (q + 4632 * b + 4632) → eqb x y ≡ agrees s (q + 4632 * b)
-  unfolding agrees
-  judged b h x y hx hy =
-      ap₂ eqb
-      (hx ∙ check-of-agree _ (λ i. bitAt s (q + 4632 * b + i)) (λ i l z. data-read b i h l z))
-      hy
+  pub link-rest : (m : ℕ) → m ≡ a + 12 → (xs₀ : List ℕ) → drop a xs ≡ drop a xs₀ → drop m put ≡ drop m xs₀
+  link-rest m n xs₀ t =
+      ap (λ k. drop k put) n ∙ part-rest (linkBit s q) a (a + 12) xs ys (omega arith) fits link-part xs₀ t
+      ∙ ap (λ k. drop k xs₀) (sym n)
+
+-- it agrees where its check is the one that is carried
+pub judged : (s : List ℕ) (q x y : ℕ) → x ≡ superCheck s q → y ≡ carried s (q + 4632) → eqb x y ≡ agrees s q
+unfolding agrees
+judged s q x y ex ey = ap₂ eqb ex ey

@@ -1,4 +1,4 @@
 pub mod EntryLaws
-mod Words
+mod FilledLaws
 mod Judged
 mod Answers

@@ -1,15 +1,17 @@
 // Reading a T1 image from the first place that stands.
 ghost use mathlib.Core.Path.{_≡_};
-ghost use mathlib.Core.Bool.{not};
 ghost use mathlib.Core.List.{_++_};
 ghost use mathlib.Core.Option.{some};
-ghost use Prim.Native.Nat.{_+_, _*_, _<_, _≤_};
-ghost use lib.ListN.{length, take, drop};
+ghost use Prim.Native.Nat.{_+_, _*_, _^_, _<_, _≤_};
+ghost use lib.ListN.{length, drop};
 ghost use Rattle.line.specs.Bit.{Room, octetAt};
-ghost use Rattle.base.specs.Tab.{tab, count};
-ghost use Rattle.t1.specs.Superframe.{agrees};
+ghost use Rattle.base.specs.Tab.{tab};
+ghost use Rattle.line.specs.Spelt.{digit};
+ghost use Rattle.t1.specs.Superframe.{superCheck};
+ghost use Rattle.t1.specs.Raw.{framingOf};
 ghost use Rattle.t1align.specs.Place.{firstStanding};
-ghost use Rattle.t1read.specs.Reading.{octetOf, payloadOf, linkOf};
+ghost use Rattle.t1read.specs.Reading.{payloadOf, linkOf, errored};
+ghost use Rattle.t1read.specs.Filled.{filled, everyEighth};
 ghost use Rattle.t1read.specs.Entry.{Read, GoodLength, refuse};
 
 // What is read: the number is 0, or the refusal's with zeros beside it.
@@ -21,40 +23,28 @@ pub struct Reading {
     pub errored: usize,
 }
 
-// 24 octets as they stand, three words
-fn put_octets(part: &[u8], out: &mut [u8])
-    requires { ⌜ (length (now part) ≡ 24) × (length (now out) ≡ 24) ⌝ }
-    ensures { λ _. ⌜ now (out .exit) ≡ tab 24 (λ j. octetAt (now (part .entry)) (8 * j)) ⌝ }
+// the 24 octets from bit o of octet i on: two runs, which share eight
+fn put_frame(s: &[u8], i: usize, o: usize, out: &mut [u8])
+    requires { ⌜ (8 * i + o + 192 ≤ 8 * length (now s)) × (o < 8) × (length (now out) ≡ 24) ⌝ }
+    ensures { λ _. ⌜ now (out .exit) ≡ tab 24 (λ j. octetAt (now (s .entry)) (8 * i + o + 8 * j)) ⌝ }
 {
-    for w in 0..3 {
-        let a = 8 * w;
-        line::spell(line::window(part, a), &mut out[a..a + 8]);
+    for h in 0..2 {
+        let a = 8 * h;
+        line::put_run(line::run_in(s, i + a, o), &mut out[a..a + 16]);
     }
 }
 
-// 24 octets from bit o of the first of 25 on
-fn put_shifted(part: &[u8], o: usize, out: &mut [u8])
-    requires { ⌜ (length (now part) ≡ 25) × (1 ≤ o) × (o < 8) × (length (now out) ≡ 24) ⌝ }
-    ensures { λ _. ⌜ now (out .exit) ≡ tab 24 (λ j. octetAt (now (part .entry)) (o + 8 * j)) ⌝ }
+// frames g, g + 8, g + 16 and so on of n superframes, which begin at one bit of their octets, 193 octets apart
+fn put_every_eighth(s: &[u8], q: usize, g: usize, n: usize, out: &mut [u8])
+    requires { ⌜ Room (now s) q (4632 * n) × (576 * n ≤ length (now out)) × (g < 8) ⌝ }
+    ensures { λ _. ⌜ now (out .exit) ≡ filled (everyEighth g (24 * n)) (now (s .entry)) q (now (out .entry)) ⌝ }
 {
-    for w in 0..3 {
-        let a = 8 * w;
-        let word = (line::window(part, a) << o) | ((part[a + 8] as u64) >> (8 - o));
-        line::spell(word, &mut out[a..a + 8]);
-    }
-}
-
-// the octets of the frame at q
-fn put_frame(s: &[u8], q: usize, out: &mut [u8])
-    requires { ⌜ Room (now s) q 193 × (length (now out) ≡ 24) ⌝ }
-    ensures { λ _. ⌜ now (out .exit) ≡ tab 24 (octetOf (now (s .entry)) q) ⌝ }
-{
-    let i = (q + 1) >> 3;
-    let o = (q + 1) & 7;
-    if o == 0 {
-        put_octets(&s[i..i + 24], out);
-    } else {
-        put_shifted(&s[i..i + 25], o, out);
+    let p = q + 193 * g + 1;
+    let i = p >> 3;
+    let o = p & 7;
+    for a in 0..3 * n {
+        let e = 24 * (8 * a + g);
+        put_frame(s, i + 193 * a, o, &mut out[e..e + 24]);
     }
 }
 
@@ -63,35 +53,50 @@ fn payload_of(s: &[u8], q: usize, n: usize, out: &mut [u8])
     requires { ⌜ Room (now s) q (4632 * n) × (576 * n ≤ length (now out)) ⌝ }
     ensures { λ _. ⌜ now (out .exit) ≡ payloadOf (now (s .entry)) q n ++ drop (576 * n) (now (out .entry)) ⌝ }
 {
-    for f in 0..24 * n {
-        let a = 24 * f;
-        put_frame(s, q + 193 * f, &mut out[a..a + 24]);
+    for g in 0..8 {
+        put_every_eighth(s, q, g, n, out);
     }
 }
 
-// the data link of n superframes
-fn link_of(s: &[u8], q: usize, n: usize, out: &mut [u8])
-    requires { ⌜ Room (now s) q (4632 * n) × (12 * n ≤ length (now out)) ⌝ }
-    ensures { λ _. ⌜ now (out .exit) ≡ linkOf (now (s .entry)) q n ++ drop (12 * n) (now (out .entry)) ⌝ }
+// the data link of a superframe, from its framing bits
+fn put_link(framing: u64, out: &mut [u8])
+    requires { ⌜ length (now out) ≡ 12 ⌝ }
+    ensures { λ _. ⌜ now (out .exit) ≡ tab 12 (λ k. digit 24 framing (2 * k)) ⌝ }
 {
-    for i in 0..12 * n {
-        let v = line::bit(s, q + 193 * (2 * i));
-        out[i] = v;
+    for k in 0..12 {
+        let bit = (framing >> (23 - 2 * k)) % 2;
+        out[k] = bit as u8;
     }
 }
 
-// how many of the first m superframes do not agree; the payload of these has been read
-fn judge(s: &[u8], q: usize, m: usize, payload: &[u8]) -> usize
-    requires { ⌜ Room (now s) q (4632 * m + 4632) × (576 * m ≤ length (now payload))
-        × (take (576 * m) (now payload) ≡ payloadOf (now s) q m) ⌝ }
-    ensures { λ r. ⌜ r ≡ count m (λ b. not (agrees (now (s .entry)) (q + 4632 * b))) ⌝ }
+// the check of the superframe at bit o of octet i, whose framing bits are known
+fn check_at(s: &[u8], i: usize, o: usize, framing: u64) -> u64
+    requires { ⌜ (i + 587 ≤ length (now s)) × (o < 8) × (framing ≡ framingOf (now s) (8 * i + o)) × (framing < 2 ^ 24) ⌝ }
+    ensures { λ r. ⌜ r ≡ superCheck (now (s .entry)) (8 * i + o) ⌝ }
 {
+    let raw = t1::raw::of(&s[i..i + 579]);
+    t1::check_by(t1::raw::slid(s, i, o, raw), framing)
+}
+
+// the data link of n superframes, and how many of all but the last do not agree; each framing bit is taken once
+fn judge(s: &[u8], q: usize, n: usize, link: &mut [u8]) -> usize
+    requires { ⌜ Room (now s) q (4632 * n) × (1 ≤ n) × (12 * n ≤ length (now link)) ⌝ }
+    ensures { λ _. ⌜ now (link .exit) ≡ linkOf (now (s .entry)) q n ++ drop (12 * n) (now (link .entry)) ⌝ }
+    ensures { λ r. ⌜ r ≡ errored (now (s .entry)) q n ⌝ }
+{
+    let i = q >> 3;
+    let o = q & 7;
+    let mut framing = t1::framing(s, i, o);
+    put_link(framing, &mut link[0..12]);
     let mut errored: usize = 0;
-    for b in 0..m {
-        let a = 576 * b;
-        if t1::check_of(&payload[a..a + 576]) != t1::carried(s, q + 4632 * b + 4632) {
+    for b in 0..n - 1 {
+        let next = t1::framing(s, i + 579 * b + 579, o);
+        let a = 12 * b + 12;
+        put_link(next, &mut link[a..a + 12]);
+        if check_at(s, i + 579 * b, o, framing) != t1::carried_by(next) {
             errored += 1;
         }
+        framing = next;
     }
     errored
 }
@@ -120,14 +125,12 @@ fn read_from(image: &[u8], place: usize, payload: &mut [u8], link: &mut [u8]) ->
         return refused(4);
     }
     payload_of(image, place, whole, payload);
-    link_of(image, place, whole, link);
-    let compared = whole - 1;
-    let errored = judge(image, place, compared, payload);
+    let errored = judge(image, place, whole, link);
     Reading {
         number: 0,
         place,
         whole,
-        compared,
+        compared: whole - 1,
         errored,
     }
 }

@@ -13,7 +13,8 @@ use Rattle.line.specs.Bit.{bitAt, field}
 use Rattle.line.specs.Window.{bitOf}
 use Rattle.line.proofs.BitLaws.{bit-lt, field-lt}
 use Rattle.line.proofs.WindowLaws.{bit-at}
-use Rattle.t1sliced.specs.Sliced.{raw, change, Sliced, later, TopBit}
+use Rattle.t1.specs.Raw.{raw}
+use Rattle.t1sliced.specs.Sliced.{change, Sliced, later, TopBit}
 use Rattle.t1sliced.proofs.Bitwise.{xor-bits}
 use Rattle.t1sliced.proofs.Words.{below-six, bits-later}
 

@@ -1,9 +1,8 @@
 pub mod Bitwise
 mod Powers
-pub mod Words
+mod Words
 mod Slides
 mod Changed
 mod Summed
 mod Frames
 mod Agree
-mod RawWords

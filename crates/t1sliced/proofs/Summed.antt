@@ -12,8 +12,9 @@ use lib.Dec.{lit<, lit≤}
 use Rattle.crc.specs.Remainder.{zeros, step, after}
 use Rattle.crc.proofs.Xor.{xor-assoc}
 use Rattle.crc.proofs.Laws.{step-lt, step-linear, step-zero}
-use Rattle.t1sliced.specs.Sliced.{raw, change, Sliced, Times, PlusLater, later}
-use Rattle.t1sliced.proofs.Powers.{zeros-lt, zero-first}
+use Rattle.t1.specs.Raw.{raw}
+use Rattle.t1sliced.specs.Sliced.{change, Sliced, Times, PlusLater, later}
+use Rattle.t1.proofs.Powers.{zeros-lt, zero-first}
 use Rattle.t1sliced.proofs.Slides.{raw-more, change-lt}
 use Rattle.t1sliced.proofs.Words.{sliced-same}
 

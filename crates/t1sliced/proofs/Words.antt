@@ -14,7 +14,8 @@ use Rattle.line.proofs.WindowLaws.{shifted-bit}
 use Rattle.crc.specs.Remainder.{zeros, after}
 use Rattle.t1sliced.specs.Sliced.{Sliced, Times, PlusLater, BitsLater, later}
 use Rattle.t1sliced.proofs.Bitwise.{xor-bits, no-bit}
-use Rattle.t1sliced.proofs.Powers.{zeros-lt, zeros-add, timesX, zero-bits, zeros-32}
+use Rattle.t1.proofs.Powers.{zeros-lt, zeros-add, zeros-32}
+use Rattle.t1sliced.proofs.Powers.{timesX, zero-bits}
 
 pub below-six : (P : ℕ → Type 0) → P 0 → P 1 → P 2 → P 3 → P 4 → P 5 → (t : ℕ) → t < 6 → P t
 below-six P a b c d e f zero h = a

@@ -1,7 +1,7 @@
--- For private functions alone, and for `agreeing`, `at_first` and `slid`, which the search's private functions use. What
--- it works out of a part of an image, 1,158 octets, for its first 56 places at once: a set of these is a number whose bit
--- 63 - o stands for the place o.
-use Prim.Native.Nat.{ℕ, zero, suc, _+_, _-_, _*_, _%_, _<_}
+-- For private functions alone, and for `agreeing`, which the search's private functions use. What it works out of a part
+-- of an image, 1,158 octets, for its first 56 places at once: a set of these is a number whose bit 63 - o stands for the
+-- place o.
+use Prim.Native.Nat.{ℕ, zero, suc, _+_, _-_, _*_, _<_}
 use mathlib.Core.Path.{_≡_}
 use mathlib.Core.List.{List}
 use mathlib.Core.Logic.{_↔_}
@@ -9,11 +9,11 @@ use lib.Bits.{bitXor}
 use lib.Dec.{eqb, ltb}
 use lib.ListN.{getD}
 use Rattle.base.specs.Choice.{if_then_else_}
-use Rattle.base.specs.Tab.{tab}
 use Rattle.line.specs.Bit.{bitAt}
 use Rattle.line.specs.Window.{bitOf, One}
 use Rattle.crc.specs.Remainder.{zeros, after}
 use Rattle.t1.specs.Superframe.{superCheck, carried}
+use Rattle.t1.specs.Raw.{raw, lackingBy}
 
 -- r has the places with P, and no others
 abbrev pub Exactly : (ℕ → Type 0) → ℕ → Type 0
@@ -22,14 +22,6 @@ Exactly P r = (o : ℕ) → o < 56 → (One r (63 - o) ↔ P o)
 -- the superframe at o agrees
 abbrev pub AgreesAt : List ℕ → ℕ → Type 0
 AgreesAt s o = superCheck s o ≡ carried s (o + 4632)
-
--- the remainder of the 4,632 bits from place p on, framing bits as they are
-unfoldable pub raw : List ℕ → ℕ → ℕ
-raw s p = after 6 0 (tab 4632 (λ i. bitAt s (p + i)))
-
--- what makes its framing bits 1
-unfoldable pub lacking : List ℕ → ℕ → ℕ
-lacking s p = after 6 0 (tab 4632 (λ i. if eqb (i % 193) 0 then 1 - bitAt s (p + i) else 0))
 
 -- Remainders f 0, f 1, .. of the places, sliced: six words, of which word t has the coefficients of x^t
 abbrev pub Sliced : (ℕ → ℕ) → List ℕ → Type 0
@@ -64,11 +56,6 @@ TopBit n t x = (o : ℕ) → o < 56 → bitOf x (63 - o) ≡ (if eqb o 0 then bi
 -- x has the bits from place q on
 abbrev pub BitsFrom : List ℕ → ℕ → ℕ → Type 0
 BitsFrom s q x = (o : ℕ) → o < 56 → bitOf x (63 - o) ≡ bitAt s (o + q)
-
--- what makes the first n framing bits from place p on 1, up to the last of them: a frame more is x^193, which is x^4
-unfoldable pub lackingBy : List ℕ → ℕ → ℕ → ℕ
-lackingBy s p zero = 0
-lackingBy s p (suc n) = bitXor (after 6 (lackingBy s p n) (zeros 4)) (1 - bitAt s (p + 193 * n))
 
 -- r has the bits of a turned over
 abbrev pub Complement : ℕ → ℕ → Type 0

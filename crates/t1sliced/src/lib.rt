@@ -1,11 +1,10 @@
 // The checks of 56 places at once, sliced: the remainders of the places of a part stand in six words, one for each
 // coefficient, that of 1 first, and bit 63 - o of each belongs to the place o.
-pub mod raw;
-
 ghost use mathlib.Core.Path.{_≡_};
 ghost use Prim.Native.Nat.{_+_, _*_, _<_, _≤_};
 ghost use lib.ListN.{length};
-ghost use Rattle.t1sliced.specs.Sliced.{Exactly, AgreesAt, raw, lacking, Sliced, Times, PlusLater, change};
+ghost use Rattle.t1.specs.Raw.{raw, lacking};
+ghost use Rattle.t1sliced.specs.Sliced.{Exactly, AgreesAt, Sliced, Times, PlusLater, change};
 ghost use Rattle.t1sliced.specs.Sliced.{BitsLater, TopBit, BitsFrom, Complement, WithFrame, WithEight};
 
 // times x, x^2, x^4, x^8 and x^16

@@ -68,24 +68,39 @@ module _ (p l : List ℕ) (c : ℕ) where
   unfolding written
   length-written n = length-packed (579 * n) (lineBit p l c)
 
+  -- n superframes, where the data link is of bits
+  module _ (n : ℕ) (bits : (i : ℕ) → getD l i 0 < 2) where
+    line-lt : Binary (lineBit p l c)
+    unfolding lineBit
+    line-lt i = if-both (λ x. x < 2) (eqb (i % 193) 0) (framing-lt l (carries p c (i / 4632)) (i / 193) bits) (data-lt p i)
+
+    -- every bit
+    bit-line : (i : ℕ) → i < 4632 * n → bitAt (written p l c n) i ≡ lineBit p l c i
+    unfolding written
+    bit-line i h = bit-packed (579 * n) (lineBit p l c) line-lt i (omega arith)
+
+    -- the framing bit of frame f, frames counted over all superframes
+    pub framing-line : (f x : ℕ) → f < 24 * n → x ≡ 193 * f → bitAt (written p l c n) x ≡ framingBit l (carries p c (f / 24)) f
+    framing-line f x h e =
+        let u : x / 4632 ≡ f / 24 = omega arith in
+        let v : x / 193 ≡ f = omega arith in
+        bit-line x (omega arith) ∙ line-framing x (omega arith) ∙ ap₂ (λ a b. framingBit l (carries p c a) b) u v
+
+    -- the check of superframe b, which the next one carries
+    pub check-line : (b : ℕ) → b < n → superCheck (written p l c n) (4632 * b) ≡ carries p c (suc b)
+    unfolding carries
+    check-line b h =
+        check-of-agree (λ i. bitAt (written p l c n) (4632 * b + i)) (λ i. dataBit p (4632 * b + i))
+        (λ i k z. bit-line (4632 * b + i) (omega arith) ∙ line-data (4632 * b + i) (λ e. z (omega arith)))
+
 -- a place in the frame f
 in-frame : (x f o : ℕ) → x ≡ 193 * f + 1 + o → o < 192 → (x / 193 ≡ f) × (x % 193 ≡ 1 + o)
 in-frame x f o e h = (omega arith, omega arith)
 
--- n superframes
+-- n superframes as an accepted call writes them
 module _ {p l : List ℕ} {c n : ℕ} (g : Inputs p l c n) where
   abbrev line : List ℕ
   line = written p l c n
-
-  line-lt : Binary (lineBit p l c)
-  unfolding lineBit
-  line-lt i =
-      if-both (λ x. x < 2) (eqb (i % 193) 0) (framing-lt l (carries p c (i / 4632)) (i / 193) (g .link .bits)) (data-lt p i)
-
-  -- every bit
-  pub bit-written : (i : ℕ) → i < 4632 * n → bitAt line i ≡ lineBit p l c i
-  unfolding written
-  bit-written i h = bit-packed (579 * n) (lineBit p l c) line-lt i (omega arith)
 
   -- each payload octet, bit by bit and whole
   data-written : (i j x : ℕ) → i < 576 * n → j < 8 → x ≡ octetPlace 0 (i / 24) (i % 24) + j
@@ -93,7 +108,8 @@ module _ {p l : List ℕ} {c n : ℕ} (g : Inputs p l c n) where
   unfolding dataBit
   data-written i j x h k e =
       let w = in-frame x (i / 24) (8 * (i % 24) + j) (omega arith) (omega arith) in
-      bit-written x (omega arith) ∙ line-data p l c x (λ z. omega (arith, w .1)) ∙ ap (bitAt p) (omega (arith, w .0, w .1))
+      bit-line p l c n (g .link .bits) x (omega arith) ∙ line-data p l c x (λ z. omega (arith, w .1))
+      ∙ ap (bitAt p) (omega (arith, w .0, w .1))
 
   pub octet-written : (i : ℕ) → i < 576 * n → getD p i 0 < 256 → octetAt line (octetPlace 0 (i / 24) (i % 24)) ≡ getD p i 0
   unfolding field
@@ -106,18 +122,11 @@ module _ {p l : List ℕ} {c n : ℕ} (g : Inputs p l c n) where
   pub payload-back : ((i : ℕ) → getD p i 0 < 256) → tab (576 * n) (λ i. octetAt line (octetPlace 0 (i / 24) (i % 24))) ≡ p
   payload-back h = tab-of (576 * n) _ p (g .payload) (λ i m. octet-written i m (h i))
 
-  -- the framing bit of frame f, frames counted over all superframes
-  framing-written : (f x : ℕ) → f < 24 * n → x ≡ 193 * f → bitAt line x ≡ framingBit l (carries p c (f / 24)) f
-  framing-written f x h e =
-      let u : x / 4632 ≡ f / 24 = omega arith in
-      let v : x / 193 ≡ f = omega arith in
-      bit-written x (omega arith) ∙ line-framing p l c x (omega arith) ∙ ap₂ (λ a b. framingBit l (carries p c a) b) u v
-
   -- the data link
   pub link-written : (i : ℕ) → i < 12 * n → bitAt line (framingAt 0 (2 * i)) ≡ getD l i 0
   link-written i h =
       let e : 2 * i / 2 ≡ i = omega arith in
-      framing-written (2 * i) (framingAt 0 (2 * i)) (omega arith) (omega arith)
+      framing-line p l c n (g .link .bits) (2 * i) (framingAt 0 (2 * i)) (omega arith) (omega arith)
       ∙ link-frame l (carries p c (2 * i / 24)) (2 * i) (omega arith) ∙ ap (λ x. getD l x 0) e
 
   pub link-back : tab (12 * n) (λ i. bitAt line (framingAt 0 (2 * i))) ≡ l
@@ -137,7 +146,7 @@ module _ {p l : List ℕ} {c n : ℕ} (g : Inputs p l c n) where
             let f : ℕ = 24 * b + (4 * i + 1) in
             let u : f / 24 ≡ b = omega arith in
             let v : f / 4 % 6 ≡ i = omega arith in
-            framing-written f (framingAt (4632 * b) (4 * i + 1)) (omega arith) (omega arith)
+            framing-line p l c n (g .link .bits) f (framingAt (4632 * b) (4 * i + 1)) (omega arith) (omega arith)
             ∙ check-frame l (carries p c (f / 24)) f (omega arith) ∙ ap₂ (λ x y. digit 6 (carries p c x) y) u v
 
     -- its signal
@@ -145,15 +154,12 @@ module _ {p l : List ℕ} {c n : ℕ} (g : Inputs p l c n) where
     signal-written i k =
         let f : ℕ = 24 * b + (4 * i + 3) in
         let v : f / 4 % 6 ≡ i = omega arith in
-        framing-written f (framingAt (4632 * b) (4 * i + 3)) (omega arith) (omega arith)
+        framing-line p l c n (g .link .bits) f (framingAt (4632 * b) (4 * i + 3)) (omega arith) (omega arith)
         ∙ signal-frame l (carries p c (f / 24)) f (omega arith) ∙ ap (λ x. getD signal x 0) v
 
     -- its check, which the next one carries
     pub check-written : superCheck line (4632 * b) ≡ carries p c (suc b)
-    unfolding carries
-    check-written =
-        check-of-agree (λ i. bitAt line (4632 * b + i)) (λ i. dataBit p (4632 * b + i))
-        (λ i k z. bit-written (4632 * b + i) (omega arith) ∙ line-data p l c (4632 * b + i) (λ e. z (omega arith)))
+    check-written = check-line p l c n (g .link .bits) b h
 
   -- every superframe but the last agrees with the check that is carried after it
   pub agrees-written : (b : ℕ) → b + 1 < n → agrees line (4632 * b) ≡ true

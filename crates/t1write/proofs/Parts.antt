@@ -1,9 +1,8 @@
 -- A superframe that is written by eight frames, and a line that is written superframe by superframe.
-use Prim.Native.Nat.{ℕ, _+_, _-_, _*_, _/_, _%_, _≤_, _<_}
+use Prim.Native.Nat.{ℕ, _+_, _-_, _*_, _/_, _%_, _^_, _≤_, _<_}
 use mathlib.Core.Path.{_≡_, sym, ap, ap₂, _∙_}
 use mathlib.Core.List.{List, _++_}
 use native.Mathlib.Decide.{ℕ-discrete, decLt}
-use native.Mathlib.Nat.{zero-add}
 use native.Mathlib.Omega.{arith}
 use borrow.Rule.Slice.PartMut.{putMid, drop-put}
 use lib.Dec.{lit<}
@@ -12,14 +11,17 @@ use lib.Seq.{getD-take, getD-drop, drop-drop}
 use Rattle.base.specs.Tab.{tab}
 use Rattle.base.proofs.PartLaws.{part-length, take-put-more}
 use Rattle.base.proofs.TabLaws.{tab-agree, tab-fill}
-use Rattle.line.specs.Spelt.{spelt, packed}
+use Rattle.line.specs.Bit.{bitAt}
+use Rattle.line.specs.Spelt.{spelt, digit, packed}
 use Rattle.line.proofs.SpeltLaws.{spelt-agree}
 use Rattle.t1.specs.Payload.{dataBit}
-use Rattle.t1.specs.Superframe.{checkOf}
-use Rattle.t1.proofs.Laws.{check-of-agree, data-part}
+use Rattle.t1.specs.Superframe.{framingAt, superCheck}
+use Rattle.t1.specs.Raw.{framingOf}
+use Rattle.t1.proofs.Laws.{data-part}
 use Rattle.t1write.specs.Writing.{framingBit, carries, lineBit, written, signalledOctet, withSignals}
 use Rattle.t1write.specs.Inputs.{OfBits, framesBit}
-use Rattle.t1write.proofs.Laws.{line-framing, line-data, length-written}
+use Rattle.t1write.proofs.Laws.{framing-lt, line-framing, line-data, length-written, framing-line, check-line}
+use Rattle.t1write.proofs.Framing.{eight-framing}
 use Rattle.t1write.proofs.Words.{frames-framing, frames-other}
 use Rattle.t1write.proofs.Joins.{Later, later-carries, later-written}
 use Rattle.t1write.proofs.Signals.{signals-at}
@@ -49,35 +51,37 @@ module _ (o l : List ℕ) (k : ℕ) where
   abbrev pub lineOctet : ℕ → ℕ
   lineOctet i = spelt 8 (λ j. lineBit o l k (8 * i + j))
 
-  module _ (a : ℕ) (h : a < 3) where
+  -- frames 8a to 8a + 7, whose framing bits are b
+  module _ (bits : (i : ℕ) → getD l i 0 < 2) (a b : ℕ) (h : a < 3) (e : b ≡ spelt 24 (framingBit l k) / 2 ^ (16 - 8 * a) % 256) where
     abbrev eight : List ℕ
     eight = part (192 * a) (192 * a + 192) o
 
-    eight-line : (x : ℕ) → x < 1544 → framesBit eight l k (8 * a) x ≡ lineBit o l k (1544 * a + x)
+    eight-line : (x : ℕ) → x < 1544 → framesBit eight b x ≡ lineBit o l k (1544 * a + x)
     unfolding carries
     eight-line x m = go (ℕ-discrete (x % 193) 0)
       where
-        go : Dec (x % 193 ≡ 0) → framesBit eight l k (8 * a) x ≡ lineBit o l k (1544 * a + x)
-        go (yes e) =
+        go : Dec (x % 193 ≡ 0) → framesBit eight b x ≡ lineBit o l k (1544 * a + x)
+        go (yes z) =
             let u : (1544 * a + x) / 4632 ≡ 0 = omega arith in
             let v : (1544 * a + x) / 193 ≡ 8 * a + x / 193 = omega arith in
-            frames-framing eight l k (8 * a) x (x / 193) (omega arith)
+            frames-framing eight b x (x / 193) (omega arith)
+            ∙ ap (λ b. digit 8 b (x / 193)) e ∙ eight-framing l k (λ f. framing-lt l k f bits) a (x / 193) h (omega arith)
             ∙ sym (line-framing o l k (1544 * a + x) (omega arith) ∙ ap₂ (λ b f. framingBit l (carries o k b) f) u v)
         go (no z) =
             let n : 192 * a + 192 - 192 * a ≡ 24 * 8 = omega arith in
             let d : 192 * a ≡ 24 * (8 * a) = omega arith in
             let f : 193 * (8 * a) + x ≡ 1544 * a + x = omega arith in
-            frames-other eight l k (8 * a) x z
+            frames-other eight b x z
             ∙ ap₂ (λ n d. dataBit (take n (drop d o)) x) n d ∙ data-part o (8 * a) 8 x (omega arith) ∙ ap (dataBit o) f
-            ∙ sym (line-data o l k (1544 * a + x) (λ e. z (omega arith)))
+            ∙ sym (line-data o l k (1544 * a + x) (λ y. z (omega arith)))
 
-    pub eight-part : (ys : List ℕ) → ys ≡ packed 193 (framesBit eight l k (8 * a))
+    pub eight-part : (ys : List ℕ) → ys ≡ packed 193 (framesBit eight b)
         → ys ≡ tab (193 * a + 193 - 193 * a) (λ i. lineOctet (193 * a + i))
     unfolding packed
-    eight-part ys e =
+    eight-part ys ey =
         let n : 193 * a + 193 - 193 * a ≡ 193 = omega arith in
-        e ∙ tab-agree 193 (λ i. spelt 8 (λ j. framesBit eight l k (8 * a) (8 * i + j))) (λ i. lineOctet (193 * a + i))
-        (λ i m. spelt-agree 8 (λ j. framesBit eight l k (8 * a) (8 * i + j)) (λ j. lineBit o l k (8 * (193 * a + i) + j))
+        ey ∙ tab-agree 193 (λ i. spelt 8 (λ j. framesBit eight b (8 * i + j))) (λ i. lineOctet (193 * a + i))
+        (λ i m. spelt-agree 8 (λ j. framesBit eight b (8 * i + j)) (λ j. lineBit o l k (8 * (193 * a + i) + j))
         (λ j g. eight-line (8 * i + j) (omega arith) ∙ ap (lineBit o l k) (omega arith)))
         ∙ ap (λ n. tab n (λ i. lineOctet (193 * a + i))) (sym n)
 
@@ -88,9 +92,18 @@ module _ (o l : List ℕ) (k : ℕ) where
       let n : 193 * a ≡ 579 = omega arith in
       tab-fill xs 579 lineOctet (omega arith) (rw n at t)
 
-  pub superframe-check : checkOf (dataBit o) ≡ carries o k 1
-  unfolding carries
-  superframe-check = check-of-agree (dataBit o) (λ i. dataBit o (4632 * 0 + i)) (λ i h z. ap (dataBit o) (sym (zero-add i)))
+  -- its framing bits, and its check
+  module _ (bits : (i : ℕ) → getD l i 0 < 2) where
+    pub superframe-framing : framingOf (written o l k 1) 0 ≡ spelt 24 (framingBit l k)
+    unfolding carries framingOf
+    superframe-framing =
+        spelt-agree 24 (λ f. bitAt (written o l k 1) (framingAt 0 f)) (framingBit l k)
+        (λ f h.
+        let z : f / 24 ≡ 0 = omega arith in
+        framing-line o l k 1 bits f (framingAt 0 f) (omega arith) (omega arith) ∙ ap (λ b. framingBit l (carries o k b) f) z)
+
+    pub superframe-check : superCheck (written o l k 1) 0 ≡ carries o k 1
+    superframe-check = check-line o l k 1 bits 0 (lit< tt)
 
 -- superframe m of the payload p and the data link l
 abbrev pub payloadPart : ℕ → List ℕ → List ℕ

@@ -1,4 +1,4 @@
--- Words of 64 bits that spell frames from the frame f on: the bits of the octets o, with a framing bit before each 192.
+-- Words of 64 bits that spell eight frames: the bits of the octets o, with a framing bit, a digit of b, before each 192.
 use Prim.Native.Nat.{ℕ, _+_, _-_, _*_, _/_, _%_, _^_, _≤_, _<_}
 use mathlib.Core.Path.{_≡_, refl, sym, ap, ap₂, _∙_}
 use mathlib.Core.Logic.{_≢_}
@@ -15,15 +15,13 @@ use Rattle.base.proofs.ChoiceLaws.{if-both}
 use Rattle.base.proofs.PartLaws.{part-more}
 use Rattle.base.proofs.TabLaws.{tab-agree}
 use Rattle.line.specs.Bit.{bitAt, field}
-use Rattle.line.specs.Spelt.{spelt, packed, speltOctet}
+use Rattle.line.specs.Spelt.{spelt, digit, packed, speltOctet}
 use Rattle.line.proofs.BitLaws.{field-add, field-lt, octet-one}
 use Rattle.line.proofs.SpeltLaws.{Binary, spelt-add, spelt-more, spelt-agree}
 use Rattle.line.proofs.PackedLaws.{octets-packed}
 use Rattle.t1.specs.Payload.{dataBit}
-use Rattle.t1write.specs.Writing.{framingBit}
 use Rattle.t1write.specs.Inputs.{framesBit}
 use Rattle.t1.proofs.Laws.{data-lt}
-use Rattle.t1write.proofs.Laws.{framing-lt}
 
 -- the first n bits of a field, and the last
 field-first : (s : List ℕ) (p n m w : ℕ) → n + m ≡ w → field s p w / 2 ^ m ≡ field s p n
@@ -47,19 +45,19 @@ last-more b x g h k =
     ap (λ z. z % 2 ^ (g + 1)) (ap (λ z. bitOr z x) shift ∙ or-shifted y 1 x (omega arith)) ∙ mod-pow-add n g 1
     ∙ ap₂ (λ u v. u % 2 ^ g * 2 ^ 1 + v) up down ∙ omega arith
 
-module _ (o l : List ℕ) (k f : ℕ) where
-  pub frames-framing : (x g : ℕ) → x ≡ 193 * g → framesBit o l k f x ≡ framingBit l k (f + g)
+module _ (o : List ℕ) (b : ℕ) where
+  pub frames-framing : (x g : ℕ) → x ≡ 193 * g → framesBit o b x ≡ digit 8 b g
   unfolding framesBit
   frames-framing x g e =
       let z : x % 193 ≡ 0 = omega arith in
       let d : x / 193 ≡ g = omega arith in
       rw (eq-eqb (x % 193) 0 z, d)
 
-  pub frames-other : (x : ℕ) → x % 193 ≢ 0 → framesBit o l k f x ≡ dataBit o x
+  pub frames-other : (x : ℕ) → x % 193 ≢ 0 → framesBit o b x ≡ dataBit o x
   unfolding framesBit
   frames-other x z = rw (ne-eqb (x % 193) 0 z)
 
-  frames-data : (x g y : ℕ) → 193 * g < x → x < 193 * (g + 1) → y + g + 1 ≡ x → framesBit o l k f x ≡ bitAt o y
+  frames-data : (x g y : ℕ) → 193 * g < x → x < 193 * (g + 1) → y + g + 1 ≡ x → framesBit o b x ≡ bitAt o y
   unfolding dataBit
   frames-data x g y h m e =
       let d : x / 193 ≡ g = omega arith in
@@ -67,72 +65,70 @@ module _ (o l : List ℕ) (k f : ℕ) where
       let z : x % 193 ≢ 0 = λ q. omega arith in
       frames-other x z ∙ ap (bitAt o) (omega (arith, d, r))
 
-  frames-lt : ((i : ℕ) → getD l i 0 < 2) → Binary (framesBit o l k f)
+  frames-lt : Binary (framesBit o b)
   unfolding framesBit
-  frames-lt bits i =
-      if-both (λ x. x < 2) (eqb (i % 193) 0) (framing-lt l k (f + i / 193) bits) (data-lt o i)
+  frames-lt i = if-both (λ x. x < 2) (eqb (i % 193) 0) (omega arith) (data-lt o i)
 
   module _ (g : ℕ) (hg : g < 8) where
     -- the last g + 1 bits of one word, and then as many of the next as make 64
-    joined-spelt : (x y q : ℕ) → x % 2 ^ (g + 1) ≡ spelt (g + 1) (λ t. framesBit o l k f (q + t))
-        → y / 2 ^ (g + 1) ≡ spelt (63 - g) (λ t. framesBit o l k f (q + (g + 1 + t)))
-        → x % 2 ^ (g + 1) * 2 ^ (63 - g) + y / 2 ^ (g + 1) ≡ spelt 64 (λ t. framesBit o l k f (q + t))
+    joined-spelt : (x y q : ℕ) → x % 2 ^ (g + 1) ≡ spelt (g + 1) (λ t. framesBit o b (q + t))
+        → y / 2 ^ (g + 1) ≡ spelt (63 - g) (λ t. framesBit o b (q + (g + 1 + t)))
+        → x % 2 ^ (g + 1) * 2 ^ (63 - g) + y / 2 ^ (g + 1) ≡ spelt 64 (λ t. framesBit o b (q + t))
     joined-spelt x y q ex ey =
         let n : g + 1 + (63 - g) ≡ 64 = omega arith in
-        let bit : ℕ → ℕ = λ t. framesBit o l k f (q + t) in
-        ap₂ (λ a b. a * 2 ^ (63 - g) + b) ex ey ∙ sym (spelt-add (g + 1) (63 - g) bit) ∙ ap (λ n. spelt n bit) n
+        let bit : ℕ → ℕ = λ t. framesBit o b (q + t) in
+        ap₂ (λ u v. u * 2 ^ (63 - g) + v) ex ey ∙ sym (spelt-add (g + 1) (63 - g) bit) ∙ ap (λ n. spelt n bit) n
 
     -- the first word of frame g: the last g bits of the frame before, the framing bit, and 63 - g bits
-    pub first-word : (b x y q : ℕ) → b % 2 ^ g ≡ field o (191 * g) g → x ≡ framingBit l k (f + g) → x < 2 → q ≡ 192 * g
-        → y ≡ field o q 64
-        → (let w = bitOr (b * 2 % 2 ^ 64) x in w % 2 ^ (g + 1) * 2 ^ (63 - g) + y / 2 ^ (g + 1))
-        ≡ spelt 64 (λ t. framesBit o l k f (q + t))
+    pub first-word : (v y q : ℕ) → v % 2 ^ g ≡ field o (191 * g) g → q ≡ 192 * g → y ≡ field o q 64
+        → (let w = bitOr (v * 2 % 2 ^ 64) (digit 8 b g) in w % 2 ^ (g + 1) * 2 ^ (63 - g) + y / 2 ^ (g + 1))
+        ≡ spelt 64 (λ t. framesBit o b (q + t))
     unfolding field
-    first-word b x y q eb ex hx eq ey =
-        let bit : ℕ → ℕ = λ t. framesBit o l k f (q + t) in
-        joined-spelt (bitOr (b * 2 % 2 ^ 64) x) y q
-        (last-more b x g hx hg
-        ∙ ap₂ (λ u v. 2 * u + v)
-        (eb ∙ spelt-agree g (λ t. bitAt o (191 * g + t)) bit (λ t h. sym (before t h)))
-        (ex ∙ sym (frames-framing (q + g) g (omega arith)))
+    first-word v y q ev eq ey =
+        let bit : ℕ → ℕ = λ t. framesBit o b (q + t) in
+        joined-spelt (bitOr (v * 2 % 2 ^ 64) (digit 8 b g)) y q
+        (last-more v (digit 8 b g) g (omega arith) hg
+        ∙ ap₂ (λ x y. 2 * x + y)
+        (ev ∙ spelt-agree g (λ t. bitAt o (191 * g + t)) bit (λ t h. sym (before t h)))
+        (sym (frames-framing (q + g) g (omega arith)))
         ∙ sym (spelt-more g bit))
         (ap (λ z. z / 2 ^ (g + 1)) ey ∙ field-first o q (63 - g) (g + 1) 64 (omega arith)
         ∙ spelt-agree (63 - g) (λ t. bitAt o (q + t)) (λ t. bit (g + 1 + t))
         (λ t h. sym (frames-data (q + (g + 1 + t)) g (q + t) (omega arith) (omega arith) (omega arith))))
       where
         -- some frame is before
-        before : (t : ℕ) → t < g → framesBit o l k f (q + t) ≡ bitAt o (191 * g + t)
+        before : (t : ℕ) → t < g → framesBit o b (q + t) ≡ bitAt o (191 * g + t)
         before t h = frames-data (q + t) (g - 1) (191 * g + t) (omega arith) (omega arith) (omega arith)
 
     -- the others: bits of the frame alone
     pub next-word : (x y q r : ℕ) → x ≡ field o q 64 → y ≡ field o r 64 → r ≡ q + 64 → 192 * g ≤ q → q ≤ 192 * g + 64
-        → x % 2 ^ (g + 1) * 2 ^ (63 - g) + y / 2 ^ (g + 1) ≡ spelt 64 (λ t. framesBit o l k f (r + t))
+        → x % 2 ^ (g + 1) * 2 ^ (63 - g) + y / 2 ^ (g + 1) ≡ spelt 64 (λ t. framesBit o b (r + t))
     unfolding field
     next-word x y q r ex ey er h h' =
         joined-spelt x y r
         (ap (λ z. z % 2 ^ (g + 1)) ex ∙ field-last o q (63 - g) (g + 1) 64 (omega arith)
-        ∙ spelt-agree (g + 1) (λ t. bitAt o (q + (63 - g) + t)) (λ t. framesBit o l k f (r + t))
+        ∙ spelt-agree (g + 1) (λ t. bitAt o (q + (63 - g) + t)) (λ t. framesBit o b (r + t))
         (λ t m. sym (frames-data (r + t) g (q + (63 - g) + t) (omega arith) (omega arith) (omega arith))))
         (ap (λ z. z / 2 ^ (g + 1)) ey ∙ field-first o r (63 - g) (g + 1) 64 (omega arith)
-        ∙ spelt-agree (63 - g) (λ t. bitAt o (r + t)) (λ t. framesBit o l k f (r + (g + 1 + t)))
+        ∙ spelt-agree (63 - g) (λ t. bitAt o (r + t)) (λ t. framesBit o b (r + (g + 1 + t)))
         (λ t m. sym (frames-data (r + (g + 1 + t)) g (r + t) (omega arith) (omega arith) (omega arith))))
 
   -- octet i of them
   abbrev pub framesOctet : ℕ → ℕ
-  framesOctet i = spelt 8 (λ j. framesBit o l k f (8 * i + j))
+  framesOctet i = spelt 8 (λ j. framesBit o b (8 * i + j))
 
-  module _ (bits : (i : ℕ) → getD l i 0 < 2) (a e w q : ℕ) (xs ys : List ℕ) (ee : e ≡ a + 8) (eq : q ≡ 8 * a)
-      (ew : w ≡ spelt 64 (λ t. framesBit o l k f (q + t))) (ey : ys ≡ tab 8 (speltOctet w)) where
+  module _ (a e w q : ℕ) (xs ys : List ℕ) (ee : e ≡ a + 8) (eq : q ≡ 8 * a)
+      (ew : w ≡ spelt 64 (λ t. framesBit o b (q + t))) (ey : ys ≡ tab 8 (speltOctet w)) where
     -- the eight octets of a word, from octet a on
     word-octets : ys ≡ tab (e - a) (λ i. framesOctet (a + i))
     unfolding packed
     word-octets =
-        let bit : ℕ → ℕ = λ t. framesBit o l k f (q + t) in
+        let bit : ℕ → ℕ = λ t. framesBit o b (q + t) in
         let n : e - a ≡ 8 = omega arith in
-        ey ∙ ap (λ w. tab 8 (speltOctet w)) ew ∙ octets-packed bit (λ t. frames-lt bits (q + t))
+        ey ∙ ap (λ w. tab 8 (speltOctet w)) ew ∙ octets-packed bit (λ t. frames-lt (q + t))
         ∙ tab-agree 8 (λ i. spelt 8 (λ j. bit (8 * i + j))) (λ i. framesOctet (a + i))
-        (λ i h. spelt-agree 8 (λ j. bit (8 * i + j)) (λ j. framesBit o l k f (8 * (a + i) + j))
-        (λ j m. ap (framesBit o l k f) (omega arith)))
+        (λ i h. spelt-agree 8 (λ j. bit (8 * i + j)) (λ j. framesBit o b (8 * (a + i) + j))
+        (λ j m. ap (framesBit o b) (omega arith)))
         ∙ ap (λ n. tab n (λ i. framesOctet (a + i))) (sym n)
 
     -- one word more
@@ -144,5 +140,5 @@ module _ (o l : List ℕ) (k f : ℕ) where
   unfolding field
   last-octet h =
       octet-one o 191 0 refl h
-      ∙ spelt-agree 8 (λ j. bitAt o (8 * 191 + 0 + j)) (λ j. framesBit o l k f (8 * 192 + j))
+      ∙ spelt-agree 8 (λ j. bitAt o (8 * 191 + 0 + j)) (λ j. framesBit o b (8 * 192 + j))
       (λ j m. sym (frames-data (8 * 192 + j) 7 (8 * 191 + 0 + j) (omega arith) (omega arith) (omega arith)))

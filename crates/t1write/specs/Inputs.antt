@@ -1,12 +1,12 @@
 -- For private functions alone. What is written of an accepted call.
-use Prim.Native.Nat.{ℕ, _+_, _*_, _/_, _%_, _<_}
+use Prim.Native.Nat.{ℕ, _*_, _/_, _%_, _<_}
 use mathlib.Core.List.{List}
 use mathlib.Core.Path.{_≡_}
 use lib.Dec.{eqb}
 use lib.ListN.{length, getD}
 use Rattle.base.specs.Choice.{if_then_else_}
+use Rattle.line.specs.Spelt.{digit}
 use Rattle.t1.specs.Payload.{dataBit}
-use Rattle.t1write.specs.Writing.{framingBit}
 
 -- n octets of 0 or 1
 pub record OfBits (l : List ℕ) (n : ℕ) : Type 0 where
@@ -19,6 +19,6 @@ pub record Inputs (p l : List ℕ) (c n : ℕ) : Type 0 where
   pub link : OfBits l (12 * n)
   pub six-bits : c < 64
 
--- bit i of the frames from f on, with the octets o and the data link l, in a superframe that carries the check k
-unfoldable pub framesBit : List ℕ → List ℕ → ℕ → ℕ → ℕ → ℕ
-framesBit o l k f i = if eqb (i % 193) 0 then framingBit l k (f + i / 193) else dataBit o i
+-- bit i of eight frames with the octets o and, as a number, the framing bits b
+unfoldable pub framesBit : List ℕ → ℕ → ℕ → ℕ
+framesBit o b i = if eqb (i % 193) 0 then digit 8 b (i / 193) else dataBit o i

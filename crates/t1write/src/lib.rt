@@ -4,7 +4,7 @@ ghost use mathlib.Core.List.{_++_};
 ghost use Prim.Native.Nat.{_+_, _-_, _*_, _/_, _%_, _^_, _<_, _≤_};
 ghost use lib.ListN.{length, drop};
 ghost use Rattle.base.specs.Answer.{firstOf};
-ghost use Rattle.line.specs.Spelt.{packed};
+ghost use Rattle.line.specs.Spelt.{packed, spelt};
 ghost use Rattle.t1write.specs.Writing.{framingBit, carries, written, withSignals};
 ghost use Rattle.t1write.specs.Entry.{areBits, faults, Wrote, WroteSignalled};
 ghost use Rattle.t1write.specs.Inputs.{OfBits, Inputs, framesBit};
@@ -15,22 +15,23 @@ pub struct Written {
     pub check: u64,
 }
 
-// the signal
-const SIGNAL: [u64; 6] = [0, 0, 1, 0, 1, 1];
+// the signal, as a number
+const SIGNAL: u64 = 0b001011;
 
-// the framing bit of frame f, in a superframe that carries the check k
-fn framing_bit(link: &[u8], k: u64, f: usize) -> u64
-    requires { ⌜ OfBits (now link) 12 × (f < 24) ⌝ }
-    ensures { λ r. ⌜ (r ≡ framingBit (now (link .entry)) k f) × (r < 2) ⌝ }
+// the framing bits of a superframe that carries the check k, as a number, the first the highest
+fn framing_of(link: &[u8], k: u64) -> u64
+    requires { ⌜ OfBits (now link) 12 ⌝ }
+    ensures { λ r. ⌜ (r ≡ spelt 24 (framingBit (now (link .entry)) k)) × (r < 2 ^ 24) ⌝ }
 {
-    if f % 2 == 0 {
-        return link[f / 2] as u64;
+    let mut bits = 0;
+    for j in 0..6 {
+        bits = 16 * bits
+            + 8 * (link[2 * j] as u64)
+            + 4 * ((k >> (5 - j)) % 2)
+            + 2 * (link[2 * j + 1] as u64)
+            + (SIGNAL >> (5 - j)) % 2;
     }
-    let j = f / 4;
-    if f % 4 == 1 {
-        return (k >> (5 - j)) % 2;
-    }
-    SIGNAL[j]
+    bits
 }
 
 // the last g + 1 bits of one word, and then as many of the next as make 64
@@ -41,10 +42,10 @@ fn joined(high: u64, low: u64, g: usize) -> u64
     (high << (63 - g)) | (low >> (g + 1))
 }
 
-// frames 8a to 8a + 7, which are 193 octets: frame 8a + g begins at bit g of octet 24g
-fn write_eight(octets: &[u8], link: &[u8], k: u64, a: usize, out: &mut [u8])
-    requires { ⌜ (length (now octets) ≡ 192) × OfBits (now link) 12 × (a < 3) × (length (now out) ≡ 193) ⌝ }
-    ensures { λ _. ⌜ now (out .exit) ≡ packed 193 (framesBit (now (octets .entry)) (now (link .entry)) k (8 * a)) ⌝ }
+// eight frames with these octets and, as a number, these framing bits: 193 octets, of which frame g begins at bit g of octet 24g
+fn write_eight(octets: &[u8], framing: u64, out: &mut [u8])
+    requires { ⌜ (length (now octets) ≡ 192) × (length (now out) ≡ 193) ⌝ }
+    ensures { λ _. ⌜ now (out .exit) ≡ packed 193 (framesBit (now (octets .entry)) framing) ⌝ }
 {
     let mut before = 0;
     for g in 0..8 {
@@ -52,9 +53,8 @@ fn write_eight(octets: &[u8], link: &[u8], k: u64, a: usize, out: &mut [u8])
         let first = line::window(octets, i);
         let second = line::window(octets, i + 8);
         let third = line::window(octets, i + 16);
-        let framing = framing_bit(link, k, 8 * a + g);
         line::spell(
-            joined((before << 1) | framing, first, g),
+            joined((before << 1) | ((framing >> (7 - g)) % 2), first, g),
             &mut out[i..i + 8],
         );
         line::spell(joined(first, second, g), &mut out[i + 8..i + 16]);
@@ -70,12 +70,17 @@ fn write_superframe(octets: &[u8], link: &[u8], k: u64, out: &mut [u8]) -> u64
     ensures { λ _. ⌜ now (out .exit) ≡ written (now (octets .entry)) (now (link .entry)) k 1 ⌝ }
     ensures { λ r. ⌜ r ≡ carries (now (octets .entry)) k 1 ⌝ }
 {
+    let framing = framing_of(link, k);
     for a in 0..3 {
         let i = 192 * a;
         let j = 193 * a;
-        write_eight(&octets[i..i + 192], link, k, a, &mut out[j..j + 193]);
+        write_eight(
+            &octets[i..i + 192],
+            (framing >> (16 - 8 * a)) % 256,
+            &mut out[j..j + 193],
+        );
     }
-    t1::check_of(octets)
+    t1::check_by(t1::raw::of(out), framing)
 }
 
 // n superframes, each to its part of the output, and the check of the last
@@ -154,12 +159,11 @@ fn are_bits(octets: &[u8], n: usize) -> bool
     if octets.len() != n {
         return false;
     }
+    let mut all = 0;
     for i in 0..n {
-        if 2 <= octets[i] {
-            return false;
-        }
+        all = all | octets[i];
     }
-    true
+    all < 2
 }
 
 // what is wrong with what a call is given, by its number

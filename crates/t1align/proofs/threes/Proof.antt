@@ -1,15 +1,10 @@
 -- `threes` meets its contract.
-use Prim.Native.Nat.{ℕ, _+_, _*_, _^_, _<_}
-use mathlib.Core.Path.{_≡_}
-use mathlib.Core.List.{[], _∷_}
+use Prim.Native.Nat.{_+_}
 use native.Mathlib.Omega.{arith}
 use borrow.Author.Needs.{needs}
 use denote.Ref.{now}
-use lib.ListN.{getD}
-use Rattle.line.specs.Bit.{field}
-use Rattle.line.specs.Window.{turned}
-use Rattle.t1sliced.proofs.Words.{below-six}
-use Rattle.t1align.proofs.Sets.{half-exactly}
+use lib.Dec.{lit<}
+use Rattle.t1align.proofs.Sets.{half-of-bits, where-bit, where-both, where-neither, where-exactly, as-exactly}
 use Rattle.t1align.proofs.threes.Statement.{statement}
 use Rattle.t1align.proofs.threes.Tie as tie
 
@@ -22,14 +17,26 @@ returns c =
     let x₁ = x₂ .before in
     let x₀ = x₁ .before in
     let s = now (x₀ .before .before .args .part) in
-    let x : ℕ → ℕ = λ k. getD (x₀ .eight-octets .result ∷ x₁ .eight-octets2 .result ∷ x₂ .eight-octets3 .result ∷ x₃ .eight-octets4 .result ∷ x₄ .eight-octets5 .result ∷ x₅ .eight-octets6 .result ∷ []) k 0 in
-    let few : (k : ℕ) → k < 6 → x k < 2 ^ 64
-    = below-six (λ k. x k < 2 ^ 64) (omega arith) (omega arith) (omega arith) (omega arith) (omega arith) (omega arith) in
-    let window : (k : ℕ) → k < 6 → turned 8 (x k) ≡ field s (8 * (72 + 193 * k)) 64
-    = below-six (λ k. turned 8 (x k) ≡ field s (8 * (72 + 193 * k)) 64) (x₀ .eight-octets .ensures) (x₁ .eight-octets2 .ensures)
-    (x₂ .eight-octets3 .ensures) (x₃ .eight-octets4 .ensures) (x₄ .eight-octets5 .ensures) (x₅ .eight-octets6 .ensures) in
-    rw (c .turned .ensures) (half-exactly s 0 72 3 (omega arith) (omega arith) x few window
-    (below-six _ (omega arith) (omega arith) (omega arith) (omega arith) (omega arith) (omega arith)))
+    let bit = where-bit 3 (lit< tt) s 0 in
+    let both = where-both 3 (lit< tt) in
+    rw (c .turned .ensures) (as-exactly _ _
+    (λ o l. (
+      λ w. (half-of-bits 0 s o (w .1 .0) (w .0 .0 .0 .0) (w .0 .0 .0 .1), half-of-bits 0 s (o + 4632) (w .1 .1) (w .0 .0 .1) (w .0 .1)),
+      λ w. ((((w .0 1 (lit< tt), w .0 2 (lit< tt)), w .1 1 (lit< tt)), w .1 2 (lit< tt)), (w .0 0 (lit< tt), w .1 0 (lit< tt))),
+    ))
+    _
+    (where-exactly 3 (lit< tt) _ _
+    (both _ _ _ _
+    (both _ _ _ _
+    (both _ _ _ _
+    (both _ _ _ _
+    (bit 1 (λ o. o) 265 _ (λ o. omega arith) (x₀ .eight-octets .ensures))
+    (bit 2 (λ o. o) 458 _ (λ o. omega arith) (x₁ .eight-octets2 .ensures)))
+    (bit 1 (λ o. o + 4632) 844 _ (λ o. omega arith) (x₂ .eight-octets3 .ensures)))
+    (bit 2 (λ o. o + 4632) 1037 _ (λ o. omega arith) (x₃ .eight-octets4 .ensures)))
+    (where-neither 3 (lit< tt) _ _ _ _ (omega arith) (omega arith)
+    (bit 0 (λ o. o) 72 _ (λ o. omega arith) (x₄ .eight-octets5 .ensures))
+    (bit 0 (λ o. o + 4632) 651 _ (λ o. omega arith) (x₅ .eight-octets6 .ensures))))))
 
 pub threes-spec : {M : Type 1} → statement M
 threes-spec =

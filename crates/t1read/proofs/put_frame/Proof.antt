@@ -1,80 +1,72 @@
--- `put_frame` meets its contract, whether its octets are octets of the image or not.
-use Prim.Native.Nat.{_+_, _-_, _*_, _/_, _≤_, _<_}
-use mathlib.Core.Path.{_∙_}
+-- `put_frame` meets its contract: at the head of the loop the octets of h runs are written, of which two share eight.
+use Prim.Native.Nat.{ℕ, _+_, _≤_, _*_, _-_}
+use mathlib.Core.Path.{_≡_, refl, ap, _∙_}
+use mathlib.Core.List.{List}
 use native.Mathlib.Omega.{arith}
-use borrow.Author.Needs.{needs}
-use lib.Bits.{bitAnd, and-mask}
-use lib.ListN.{length, take, drop}
-use Rattle.base.proofs.TabLaws.{tab-agree}
-use Rattle.base.proofs.PartLaws.{part-length}
+use lib.ListN.{length, take}
 use Rattle.line.specs.Bit.{octetAt}
-use Rattle.line.proofs.BitLaws.{place-in}
-use Rattle.t1read.specs.Reading.{octetOf}
-use Rattle.t1read.proofs.Words.{frame-octet}
+use Rattle.base.specs.Tab.{tab, tabFrom}
+use Rattle.base.proofs.PartLaws.{part-length, part-over, octets-full}
 use Rattle.t1read.proofs.put_frame.Statement.{statement}
 use Rattle.t1read.proofs.put_frame.Tie as tie
 
-returns : tie.Need-returns
+-- octet j from bit o of octet i on
+abbrev octet : List ℕ → ℕ → ℕ → ℕ → ℕ
+octet s i o j = octetAt s (8 * i + o + 8 * j)
+
+-- how many octets h runs are
+abbrev octets : ℕ → ℕ
+octets h = 16 * h - 8 * (h - 1)
+
+abbrev Inv-loop : tie.InvT-loop
+Inv-loop s i o out₀ h₀ out h = (h ≤ 2) × (length out ≡ 24) × (take (octets h) out ≡ tab (octets h) (octet s i o))
+
+abbrev μ-loop : tie.MeasureT-loop
+μ-loop s i o out₀ h₀ out h = 2 - h
+
+put-run-requires : tie.Need-put-run-requires Inv-loop μ-loop
+put-run-requires c κs =
+    let l = c .before .before .before .loop in
+    let a = 8 * l .h in
+    part-length a (a + 16) (l .out) (omega arith) ∙ omega arith
+
+loop-again : tie.Need-loop-again Inv-loop μ-loop
+loop-again c =
+    let w = c .before .before in
+    let r = w .before .before in
+    let l = r .before .before in
+    let a = l .before .before .before .args in
+    let h = l .loop .h in (
+      omega arith,
+      c .before .out .given .1 ∙ l .loop .inv .1,
+      part-over (octet (a .s .now) (a .i) (a .o)) (octet (a .s .now) (a .i + 8 * h) (a .o)) (8 * h) (octets h) 16 (octets (h + 1))
+          (l .loop .out) (w .put-run .last .1 .0) (omega arith) (omega arith) (omega arith)
+          (w .put-run .ensures ∙ r .run-in .ensures) (λ j k. ap (octetAt (a .s .now)) (omega arith)) (l .loop .inv .2),
+    )
+
+returns : tie.Need-returns Inv-loop μ-loop
 returns c =
-    let d = c .before .before in
-    let t = d .before .before .before in
-    let a = t .before .before .before .args in
-    let s = a .s .now in
-    let q = a .q in
-    let i = (q + 1) / 8 in
-    let e = place-in (q + 1) in
-    d .put-octets .ensures
-    ∙ tab-agree 24 (λ j. octetAt (take (i + 24 - i) (drop i s)) (8 * j)) (octetOf s q)
-    (λ j l. frame-octet s q i (i + 24 - i) (8 * j) j (omega arith) l (omega (arith, e, t .if1 .taken)))
-
--- the bits are not those of octets
-across : (c : tie.Else1)
-    → (let a = c .before .before .before .args in
-    ((a .q + 1) / 8 + 25 ≤ length (a .s .now)) × (1 ≤ bitAnd (a .q + 1) 7) × (bitAnd (a .q + 1) 7 < 8))
-across c =
-    let a = c .before .before .before .args in
-    let m = and-mask (a .q + 1) 3 in
-    (omega arith, omega arith, omega arith)
-
-returns-2 : tie.Need-returns-2
-returns-2 c =
-    let d = c .before .before in
-    let t = d .before .before .before in
-    let a = t .before .before .before .args in
-    let s = a .s .now in
-    let q = a .q in
-    let i = (q + 1) / 8 in
-    let o = bitAnd (q + 1) 7 in
-    let e = place-in (q + 1) in
-    d .put-shifted .ensures
-    ∙ tab-agree 24 (λ j. octetAt (take (i + 25 - i) (drop i s)) (o + 8 * j)) (octetOf s q)
-    (λ j l. frame-octet s q i (i + 25 - i) (o + 8 * j) j (omega (arith, across t .2)) l (omega arith))
-
-put-shifted-requires : tie.Need-put-shifted-requires
-put-shifted-requires c κs =
-    let t = c .before .before in
-    let a = t .before .before .before .args in
-    let i = (a .q + 1) / 8 in
-    let b = across t in
-    (part-length i (i + 25) (a .s .now) (b .0) ∙ omega arith, b .1, b .2, search needs)
+    let l = c .before in
+    let a = l .before .before .before .args in
+    octets-full (l .loop .out) (octets (l .loop .h)) 24 (octet (a .s .now) (a .i) (a .o)) (omega arith) (omega arith)
+    (l .loop .inv .2)
 
 pub put-frame-spec : {M : Type 1} → statement M
+unfolding tabFrom
 put-frame-spec =
     tie.close
-    (tie.spec
-    (search needs)
-    (search needs)
-    (search needs)
-    (search needs)
-    (search needs)
-    (search needs)
-    (λ c κs. search needs)
-    (search needs)
-    (search needs)
-    (search needs)
-    (λ c. omega (arith, across c .0))
-    put-shifted-requires
-    (search needs)
-    returns
-    (search needs)
-    returns-2)
+    (tie.spec Inv-loop μ-loop
+    (λ c. (omega arith, omega arith, refl))
+    (omega arith)
+    (omega arith)
+    (λ c κs. (omega arith, omega arith))
+    (omega arith)
+    (omega arith)
+    (omega arith)
+    (omega arith)
+    put-run-requires
+    (omega arith)
+    (omega arith)
+    loop-again
+    (omega arith)
+    returns)

@@ -8,7 +8,7 @@ use borrow.Author.Tests.{ltb-false}
 use lib.Dec.{ltb}
 use lib.ListN.{length}
 use Rattle.t1read.proofs.EntryLaws.{refused-4, accepts, refused-as}
-use Rattle.t1read.proofs.Answers.{payload-front, Measured, measured, answered}
+use Rattle.t1read.proofs.Answers.{Measured, measured, answered}
 use Rattle.t1read.proofs.read_from.Statement.{statement}
 use Rattle.t1read.proofs.read_from.Tie as tie
 
@@ -39,27 +39,10 @@ fits c =
     let f = or-eq-false-eq-eq-false-and-eq-false (ltb (length (a .payload .now)) (576 * m)) (ltb (length (a .link .now)) (12 * m)) .0 (c .if1 .left) in
     (ltb-false _ _ (f .0), ltb-false _ _ (f .1))
 
--- the start, from where the superframes are judged
-abbrev start : tie.After-slice-known4 → tie.Start
-start c = c .before .before .before .before .before .before .before .before .before .before .before .before
-
-judge-requires : tie.Need-judge-requires
-judge-requires c κs =
-    let d = start (c .before) in
-    let y = c .before .before .before .before .before .before .before in
-    let s = d .args .image .now in
-    let q = d .args .place in
-    let m = (8 * length s - q) / 4632 in
-    let f = facts d in (
-      record { countable = f .room .countable; there = omega (arith, f .two, f .room .there) },
-      omega (arith, fits (y .before .before) .0),
-      payload-front s q (m - 1) 1 m _ _ (omega (arith, f .two)) (y .payload-of .ensures),
-    )
-
 returns-2 : tie.Need-returns-2
 returns-2 c =
-    let z = c .before .before .before .before in
-    let y = z .before .before .before .before in
+    let j = c .before .before in
+    let y = j .before .before .before .before in
     let e = y .before .before in
     let d = e .before .before .before .before in
     let s = d .args .image .now in
@@ -68,9 +51,9 @@ returns-2 c =
     let few = e .if1 .left in
     answered s (d .pre .0) (d .args .place) (d .pre .1) _ refl p o _ _ _
     (accepts s (length p) (length o) (d .pre .0) _ (d .pre .1) (rw (facts d .of) at few))
-    (c .judge .ensures)
+    (j .judge .ensures .1)
     (y .payload-of .ensures)
-    (z .link-of .ensures)
+    (j .judge .ensures .0)
 
 pub read-from-spec : {M : Type 1} → statement M
 read-from-spec =
@@ -83,9 +66,10 @@ read-from-spec =
     (search needs)
     returns
     (λ c κs. (facts (c .before .before .before .before .before) .room, fits (c .before) .0))
-    (λ c κs. (facts (c .before .before .before .before .before .before .before .before .before) .room, fits (c .before .before .before .before .before) .1))
-    (λ c. omega (arith, facts (start c) .two))
-    judge-requires
+    (λ c κs.
+    let f = facts (c .before .before .before .before .before .before .before .before .before) in
+    (f .room, omega (arith, f .two), fits (c .before .before .before .before .before) .1))
+    (λ c. omega (arith, facts (c .before .before .before .before .before .before .before .before .before .before .before .before) .two))
     (search needs)
     (search needs)
     returns-2)

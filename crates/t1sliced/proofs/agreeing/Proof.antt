@@ -6,9 +6,10 @@ use denote.Ref.{now}
 use lib.Bits.{bitXor}
 use lib.ListN.{getD}
 use Rattle.t1.specs.Superframe.{superCheck}
-use Rattle.t1sliced.specs.Sliced.{raw, lacking, BitsFrom}
+use Rattle.t1.specs.Raw.{raw, lacking}
+use Rattle.t1sliced.specs.Sliced.{BitsFrom}
 use Rattle.t1sliced.proofs.Words.{below-six, sliced-same, plus-here, times-both}
-use Rattle.t1sliced.proofs.Frames.{whole-lt, whole-check}
+use Rattle.t1.proofs.Lacking.{whole-lt, whole-check}
 use Rattle.t1sliced.proofs.Agree.{ors, agree-exactly}
 use Rattle.t1sliced.proofs.agreeing.Statement.{statement}
 use Rattle.t1sliced.proofs.agreeing.Tie as tie

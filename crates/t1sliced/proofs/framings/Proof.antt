@@ -2,9 +2,10 @@
 use mathlib.Core.Path.{refl, sym}
 use borrow.Author.Needs.{needs}
 use denote.Ref.{now}
-use Rattle.t1sliced.specs.Sliced.{lackingBy}
+use Rattle.t1.specs.Raw.{lackingBy}
 use Rattle.t1sliced.proofs.Words.{sliced-same, times-both}
-use Rattle.t1sliced.proofs.Frames.{by-lt, lacking-by, none-lacking}
+use Rattle.t1.proofs.Lacking.{by-lt, lacking-by}
+use Rattle.t1sliced.proofs.Frames.{none-lacking}
 use Rattle.t1sliced.proofs.framings.Statement.{statement}
 use Rattle.t1sliced.proofs.framings.Tie as tie
 
