@@ -156,7 +156,8 @@ returns c =
     let last : l .loop .b ≡ a .n - 1 = omega arith in
     let n : 12 + (12 * a .n - 12) ≡ 12 * a .n = omega arith in
     let link₀ = putMid 0 12 (a .link .now) (w .last .1 .0) in
-    let first = link-rest s q 0 0 (f .result) (a .link .now) (w .last .1 .0) refl (omega arith) (f .ensures .0 ∙ ap (framingOf s) p) (w .ensures) 12 refl (a .link .now) refl in
+    let e = f .ensures .0 ∙ ap (framingOf s) p in
+    let first = link-rest s q 0 0 (f .result) (a .link .now) (w .last .1 .0) refl (omega arith) e (w .ensures) 12 refl (a .link .now) refl in
     let rest = ap (λ m. drop m link₀) (sym n) ∙ sym (drop-drop (12 * a .n - 12) 12 link₀) ∙ ap (drop (12 * a .n - 12)) first
     ∙ drop-drop (12 * a .n - 12) 12 (a .link .now) ∙ ap (λ m. drop m (a .link .now)) n in (
       parts-kept (linkBit s q) (12 * a .n) (12 * l .loop .b + 12) (l .loop .link) link₀ all (v .3 .1) (v .3 .2)

@@ -20,6 +20,12 @@ abbrev μ-loop : tie.MeasureT-loop
 before-last : (d k n : ℕ) → k < n → d * k + d ≤ d * n
 before-last d k n h = subst (λ x. x ≤ d * n) (mul-suc d k) (mul-le-mul-left d h)
 
+within : (c : tie.In-loop Inv-loop μ-loop)
+    → (let a = c .before .before .before .args in a .d * c .before .loop .k + a .d ≤ a .d * a .n)
+within c =
+    let a = c .before .before .before .args in
+    let h : c .before .loop .k < a .n = omega arith in before-last (a .d) (c .before .loop .k) (a .n) h
+
 loop-again : tie.Need-loop-again Inv-loop μ-loop
 loop-again c =
     let l = c .before .before in
@@ -40,9 +46,9 @@ windows-spec =
     tie.close
     (tie.spec Inv-loop μ-loop
     (λ c. (omega arith, refl))
-    (λ c. let h : c .before .loop .k < c .before .before .before .args .n = omega arith in omega (arith, before-last (c .before .before .before .args .d) _ _ h))
-    (λ c. let h : c .before .loop .k < c .before .before .before .args .n = omega arith in omega (arith, before-last (c .before .before .before .args .d) _ _ h))
-    (λ c κs. let h : c .before .loop .k < c .before .before .before .args .n = omega arith in omega (arith, before-last (c .before .before .before .args .d) _ _ h))
+    (λ c. omega (arith, within c))
+    (λ c. omega (arith, within c))
+    (λ c κs. omega (arith, within c))
     (omega arith)
     (omega arith)
     loop-again
