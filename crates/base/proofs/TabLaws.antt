@@ -254,13 +254,13 @@ unfolding sum
 sum-within k zero f h w = omega arith
 sum-within k (suc n) f h w = rw (mul-add k (sum n h) (h n)) (omega (arith, sum-within k n f h w, w n))
 
--- one value raised by one
-pub sum-raised : (n i : ℕ) (f h : ℕ → ℕ) → i < n → h i ≡ f i + 1 → ((j : ℕ) → j < n → (j ≡ i → ⊥) → h j ≡ f j)
-    → sum n h ≡ sum n f + 1
+-- one value grown by k
+pub sum-grown : (n i k : ℕ) (f h : ℕ → ℕ) → i < n → h i ≡ f i + k → ((j : ℕ) → j < n → (j ≡ i → ⊥) → h j ≡ f j)
+    → sum n h ≡ sum n f + k
 unfolding sum
-sum-raised zero i f h l e w = absurd (not-suc-le-zero l)
-sum-raised (suc n) i f h l e w =
+sum-grown zero i k f h l e w = absurd (not-suc-le-zero l)
+sum-grown (suc n) i k f h l e w =
     elim (eq-or-lt-of-le (le-of-suc-le-suc l)) [
-      | inl q ↦ rw (← q, e, sum-ext i h f (λ j k. w j (omega arith) (λ z. omega arith))) (omega arith)
-      | inr k ↦ rw (sum-raised n i f h k e (λ j m z. w j (omega arith) z), w n (omega arith) (λ z. omega arith)) (omega arith)
+      | inl q ↦ rw (← q, e, sum-ext i h f (λ j m. w j (omega arith) (λ z. omega arith))) (omega arith)
+      | inr m ↦ rw (sum-grown n i k f h m e (λ j b z. w j (omega arith) z), w n (omega arith) (λ z. omega arith)) (omega arith)
     ]

@@ -7,7 +7,7 @@ use native.Mathlib.Omega.{arith}
 use borrow.Author.Tests.{eq-eqb, ne-eqb}
 use lib.Dec.{eqb}
 use Rattle.base.specs.Tab.{count}
-use Rattle.base.proofs.TabLaws.{sum-ext, sum-runs, sum-within, sum-raised}
+use Rattle.base.proofs.TabLaws.{sum-ext, sum-runs, sum-within, sum-grown}
 use Rattle.e1.specs.Frame.{frameAt, wrongBit, wrongBits}
 use Rattle.e1.proofs.WordLaws.{wrong-most}
 use Rattle.measure.specs.Reading.{wrongBitsOf, wrong, wordErrors, wordBits}
@@ -55,7 +55,7 @@ module _ {s t : List ℕ} {q i j : ℕ} (h : OneHit s t q i j) where
   this-word : wrongBitsOf t q i ≡ wrongBitsOf s q i + 1
   unfolding wrongBits
   this-word =
-      sum-raised 7 j (λ k. cond (wrongIn s q i k) 1 0) (λ k. cond (wrongIn t q i k) 1 0) (h .bit)
+      sum-grown 7 j 1 (λ k. cond (wrongIn s q i k) 1 0) (λ k. cond (wrongIn t q i k) 1 0) (h .bit)
       (rw (ne-eqb _ _ (h .wrong), eq-eqb _ _ (h .right)))
       (λ k l n. rw (h .others (wordBitAt q i k) (λ e. n (omega arith))))
 
@@ -67,4 +67,4 @@ module _ {s t : List ℕ} {q i j : ℕ} (h : OneHit s t q i j) where
 
   pub one-more-bit : (g : ℕ) → i < 8 * g → wordBits t q g ≡ wordBits s q g + 1
   unfolding wordBits
-  one-more-bit g l = sum-raised (8 * g) i (wrongBitsOf s q) (wrongBitsOf t q) l this-word (λ m k. other-word m)
+  one-more-bit g l = sum-grown (8 * g) i 1 (wrongBitsOf s q) (wrongBitsOf t q) l this-word (λ m k. other-word m)

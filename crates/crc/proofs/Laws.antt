@@ -64,7 +64,7 @@ getD-plus (b ∷ bs) [] l i = absurd (suc-ne-zero (length bs) l)
 getD-plus (b ∷ bs) (c ∷ cs) l zero = refl
 getD-plus (b ∷ bs) (c ∷ cs) l (suc i) = getD-plus bs cs (suc-inj l) i
 
-length-plus : (bs cs : List ℕ) → length bs ≡ length cs → length (plus bs cs) ≡ length bs
+pub length-plus : (bs cs : List ℕ) → length bs ≡ length cs → length (plus bs cs) ≡ length bs
 unfolding plus
 length-plus [] cs l = refl
 length-plus (b ∷ bs) [] l = sym l
@@ -231,13 +231,13 @@ module _ (w : ℕ) (wide : 2 ≤ w) where
 
   -- two blocks of one length
   module _ (bs cs : List ℕ) (hb : Bits bs) (hc : Bits cs) (l : length bs ≡ length cs) where
-    plus-bits : Bits (plus bs cs)
+    pub plus-bits : Bits (plus bs cs)
     plus-bits i = subst (λ x. x < 2) (sym (getD-plus bs cs l i)) (xor-bit (getD bs i 0) (getD cs i 0) (hb i) (hc i))
 
-    plus-same : (i : ℕ) → getD bs i 0 ≡ getD cs i 0 → getD (plus bs cs) i 0 ≡ 0
+    pub plus-same : (i : ℕ) → getD bs i 0 ≡ getD cs i 0 → getD (plus bs cs) i 0 ≡ 0
     plus-same i e = getD-plus bs cs l i ∙ ap (λ x. bitXor x (getD cs i 0)) e ∙ xor-self (getD cs i 0)
 
-    plus-differ : (i : ℕ) → getD bs i 0 ≢ getD cs i 0 → getD (plus bs cs) i 0 ≡ 1
+    pub plus-differ : (i : ℕ) → getD bs i 0 ≢ getD cs i 0 → getD (plus bs cs) i 0 ≡ 1
     plus-differ i n = getD-plus bs cs l i ∙ xor-differ (getD bs i 0) (getD cs i 0) (hb i) (hc i) n
 
     -- the checks are one where the difference is a multiple of the generator

@@ -63,7 +63,7 @@ unfolding after
 zeros-step w r zero = refl
 zeros-step w r (suc n) = zeros-step w (step w r 0) n
 
-plus-none : (bs : List ℕ) → plus (zeros (length bs)) bs ≡ bs
+pub plus-none : (bs : List ℕ) → plus (zeros (length bs)) bs ≡ bs
 unfolding plus
 plus-none [] = refl
 plus-none (b ∷ bs) = ap₂ (λ (x : ℕ) (l : List ℕ). x ∷ l) (xor-zero-l b) (plus-none bs)
