@@ -1,4 +1,5 @@
 pub mod Framed
+pub mod Pairs
 pub mod Standard
 pub mod Seam
 pub mod WordBits
@@ -6,6 +7,8 @@ pub mod Counts
 pub mod Demand1
 pub mod Demand2
 pub mod Demand3
+pub mod HitTwice
+pub mod TwoHits
 pub mod Losses
 pub mod T1Accepts
 pub mod Accepts
@@ -18,6 +21,7 @@ pub mod Interface
 pub mod T1Read
 pub mod T1Demand1
 pub mod T1Demand3
+pub mod T1TwoHits
 pub mod T1Written
 pub mod T1Standard
 pub mod T1Demand2

@@ -13,6 +13,8 @@ use Rattle.claims.proofs.Interface.{interface}
 use Rattle.claims.proofs.T1Demand1.{t1-demand-1}
 use Rattle.claims.proofs.T1Demand2.{t1-demand-2}
 use Rattle.claims.proofs.T1Demand3.{t1-demand-3}
+use Rattle.claims.proofs.TwoHits.{two-hits}
+use Rattle.claims.proofs.T1TwoHits.{t1-two-hits}
 use Rattle.claims.proofs.Single.{single}
 use Rattle.claims.proofs.Bench.{bench}
 
@@ -32,6 +34,8 @@ promises =
       t1-demand-1 = t1-demand-1;
       t1-demand-2 = t1-demand-2;
       t1-demand-3 = t1-demand-3;
+      two-hits = two-hits;
+      t1-two-hits = t1-two-hits;
       single = single;
       bench = bench;
     }

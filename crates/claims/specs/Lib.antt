@@ -12,6 +12,8 @@ pub mod Interface
 pub mod T1Demand1
 pub mod T1Demand2
 pub mod T1Demand3
+pub mod TwoHits
+pub mod T1TwoHits
 pub mod Single
 pub mod Bench
 pub mod Promises

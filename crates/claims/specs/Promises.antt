@@ -12,6 +12,8 @@ use Rattle.claims.specs.Interface.{Interface}
 use Rattle.claims.specs.T1Demand1.{T1Demand1}
 use Rattle.claims.specs.T1Demand2.{T1Demand2}
 use Rattle.claims.specs.T1Demand3.{T1Demand3}
+use Rattle.claims.specs.TwoHits.{TwoHits}
+use Rattle.claims.specs.T1TwoHits.{T1TwoHits}
 use Rattle.claims.specs.Single.{Single}
 use Rattle.claims.specs.Bench.{Bench}
 
@@ -29,5 +31,7 @@ pub record Promises : Type 0 where
   pub t1-demand-1 : T1Demand1
   pub t1-demand-2 : T1Demand2
   pub t1-demand-3 : T1Demand3
+  pub two-hits : TwoHits
+  pub t1-two-hits : T1TwoHits
   pub single : Single
   pub bench : Bench
