@@ -93,19 +93,27 @@ pub fn name_place(program: &[u8], number: u64, place: usize) {
     io::write_all(STDERR_FILENO, b"\n");
 }
 
-// the place that argument `at` names; where it names none, that is said
-pub fn place(program: &[u8], at: usize) -> Spelt {
+// what argument `at` spells, one number or nothing
+pub fn argument(at: usize) -> Spelt {
     let mut word = io::buffer();
     let n = os::arg(at, &mut word);
     let mut row = [0; 8];
     if numbers(&word[..n], &mut row) != 1 {
+        return Spelt::Nothing;
+    }
+    Spelt::Number(row[0])
+}
+
+// the place that argument `at` names; where it names none, that is said
+pub fn place(program: &[u8], at: usize) -> Spelt {
+    let Spelt::Number(p) = argument(at) else {
         say(
             program,
             b"the place to ask about is missing, or is not a decimal number",
         );
         return Spelt::Nothing;
-    }
-    Spelt::Number(row[0])
+    };
+    Spelt::Number(p)
 }
 
 // argument `at` is this option

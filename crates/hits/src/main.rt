@@ -1,0 +1,134 @@
+// Says of two hits on data bits of one block whether the check sees them, and what each of the bits adds to the check. The
+// bits are the arguments; with `--t1` before them the block is a superframe of T1.
+mod judge;
+mod share;
+
+use judge::Kind;
+use judge::Verdict;
+use libc::STDERR_FILENO;
+use libc::STDOUT_FILENO;
+use pen::Pen;
+use program::text::Spelt;
+ghost use Prim.Native.Nat.{_<_, _≤_};
+ghost use Rattle.hits.specs.Verdict.{Sound};
+
+// the width lowest bits of r
+fn bits(pen: Pen, r: usize, width: usize) -> Pen
+    requires { ⌜ width ≤ 6 ⌝ }
+{
+    let digits = [
+        b'0' + (r / 32 % 2) as u8,
+        b'0' + (r / 16 % 2) as u8,
+        b'0' + (r / 8 % 2) as u8,
+        b'0' + (r / 4 % 2) as u8,
+        b'0' + (r / 2 % 2) as u8,
+        b'0' + (r % 2) as u8,
+    ];
+    let a = 6 - width;
+    pen.text(&digits[a..])
+}
+
+// what both bits add to the check, and the end of the output
+fn shares(pen: Pen, k: Kind, a: usize, b: usize)
+    requires { ⌜ Sound k × (a < k .bits) × (b < k .bits) ⌝ }
+{
+    let first = share::share_of(k, a);
+    let second = share::share_of(k, b);
+    let pen = bits(pen.fill(b"bit % adds ", &[a]), first, k.width);
+    let pen = bits(
+        pen.fill(b" to the check\nbit % adds ", &[b]),
+        second,
+        k.width,
+    );
+    let pen = bits(
+        pen.text(b" to the check\ntogether they add "),
+        first ^ second,
+        k.width,
+    );
+    program::written(b"hits", pen.text(b"\n").written);
+}
+
+fn say_outside(t1: bool) {
+    if t1 {
+        program::say(b"hits", b"a superframe has bits 0 to 4631");
+        return;
+    }
+    program::say(b"hits", b"a block has bits 0 to 2047");
+}
+
+fn say_no_data(t1: bool, bit: usize) {
+    let pen = Pen::new(STDERR_FILENO);
+    if t1 {
+        pen.fill(
+            b"hits: bit % is a framing bit, which counts as 1 in its own superframe\n",
+            &[bit],
+        );
+        return;
+    }
+    pen.fill(
+        b"hits: bit % is a check bit, which counts as 0 in its own block: it is of the block before\n",
+        &[bit],
+    );
+}
+
+fn say_one_bit(bit: usize) {
+    Pen::new(STDERR_FILENO).fill(b"hits: two hits on bit % leave it as it was\n", &[bit]);
+}
+
+// the first line of the output
+fn unseen(k: Kind, apart: usize) -> Pen
+    requires { ⌜ Sound k ⌝ }
+{
+    let times = apart / k.order;
+    Pen::new(STDOUT_FILENO).fill(b"unseen: % apart, % times %\n", &[apart, times, k.order])
+}
+
+fn seen(k: Kind, apart: usize) -> Pen {
+    Pen::new(STDOUT_FILENO).fill(b"seen: % apart, no multiple of %\n", &[apart, k.order])
+}
+
+fn answer(t1: bool, a: usize, b: usize) {
+    let k = judge::kind_of(t1);
+    let v = judge::judged(k, a, b);
+    match v {
+        Verdict::Outside => say_outside(t1),
+        Verdict::NoData { bit } => say_no_data(t1, bit),
+        Verdict::OneBit { bit } => say_one_bit(bit),
+        Verdict::Hidden { apart } => shares(unseen(k, apart), k, a, b),
+        Verdict::Seen { apart } => shares(seen(k, apart), k, a, b),
+    }
+}
+
+fn say_usage() {
+    program::say(
+        b"hits",
+        b"name two bits of a block, as decimal numbers: hits A B, or hits --t1 A B",
+    );
+}
+
+// the two bits are the arguments from `at` on, and nothing is behind them
+fn ask(t1: bool, at: usize)
+    requires { ⌜ at ≤ 2 ⌝ }
+{
+    if os::arg_count() != at + 2 {
+        say_usage();
+        return;
+    }
+    let Spelt::Number(a) = program::argument(at) else {
+        say_usage();
+        return;
+    };
+    let Spelt::Number(b) = program::argument(at + 1) else {
+        say_usage();
+        return;
+    };
+    answer(t1, a as usize, b as usize);
+}
+
+fn main() {
+    if program::is_first(b"--t1") {
+        ask(true, 2);
+        return;
+    }
+    ask(false, 1);
+}
