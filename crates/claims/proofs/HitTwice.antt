@@ -4,7 +4,7 @@ use mathlib.Core.Path.{_≡_, sym, ap, ap₂, _∙_}
 use mathlib.Core.Bool.{Bool, cond, not}
 use mathlib.Core.List.{List}
 use mathlib.Core.Logic.{_≢_, _↔_}
-use native.Mathlib.Nat.{add-left-cancel, mul-suc, mul-le-mul-left}
+use native.Mathlib.Nat.{zero-add, add-left-cancel, mul-suc, mul-le-mul-left}
 use native.Mathlib.Decide.{ℕ-discrete, decLt}
 use native.Mathlib.Omega.{arith}
 use borrow.Author.Tests.{eq-eqb, ne-eqb}
@@ -23,14 +23,16 @@ use Rattle.crc.proofs.Order.{Order}
 use Rattle.crc.proofs.ShareLaws.{hidden-by, twice-shares}
 use Rattle.claims.specs.TwoHits.{HitTwice}
 
-pub either-not : {A B : Type 0} → A ↔ B → (¬ A) ↔ (¬ B)
-either-not (there, back) = (λ n b. n (back b), λ n a. n (there a))
-
 -- Blocks of n bits, of which each d-th is no data bit and is read as fill; x has the order o by their check of w bits, and
 -- the next block carries that in such bits.
-module _ (n d fill w o : ℕ) (fill-bit : fill < 2) (wide : 2 ≤ w) (order : Order w o) (carried : List ℕ → ℕ → ℕ)
-    (carried-agree : (s t : List ℕ) (q : ℕ) → ((k : ℕ) → k < n → k % d ≡ 0 → bitAt s (q + k) ≡ bitAt t (q + k))
-    → carried s q ≡ carried t q) where
+pub record Blocks (n d fill w o : ℕ) (carried : List ℕ → ℕ → ℕ) : Type 0 where
+  pub fill-bit : fill < 2
+  pub wide : 2 ≤ w
+  pub order : Order w o
+  pub carried-agree : (s t : List ℕ) (q : ℕ) → ((k : ℕ) → k < n → k % d ≡ 0 → bitAt s (q + k) ≡ bitAt t (q + k))
+      → carried s q ≡ carried t q
+
+module _ {n d fill w o : ℕ} {carried : List ℕ → ℕ → ℕ} (blocks : Blocks n d fill w o carried) where
   abbrev checkAt : List ℕ → ℕ → ℕ
   checkAt s q = check w (striped n d fill (λ k. bitAt s (q + k)))
 
@@ -43,7 +45,8 @@ module _ (n d fill w o : ℕ) (fill-bit : fill < 2) (wide : 2 ≤ w) (order : Or
   pub hit-shares : (s t : List ℕ) (q i j : ℕ) → HitTwice n d s t q i j
       → bitXor (checkAt s q) (checkAt t q) ≡ bitXor (share w (n - 1 - i)) (share w (n - 1 - j))
   hit-shares s t q i j h =
-      twice-shares w wide n d fill fill-bit (λ k. bitAt s (q + k)) (λ k. bitAt t (q + k)) (λ k. bit-lt s (q + k)) (λ k. bit-lt t (q + k))
+      twice-shares w (blocks .wide) n d fill (blocks .fill-bit)
+      (λ k. bitAt s (q + k)) (λ k. bitAt t (q + k)) (λ k. bit-lt s (q + k)) (λ k. bit-lt t (q + k))
       i j (h .two) (h .i-data .0) (h .j-data .0) (h .i-data .1) (h .j-data .1) (h .i-hit) (h .j-hit)
       (λ k x y. h .others (q + k) (λ e. x (omega arith)) (λ e. y (omega arith)))
 
@@ -69,7 +72,7 @@ module _ (n d fill w o : ℕ) (fill-bit : fill < 2) (wide : 2 ≤ w) (order : Or
 
     -- and each carries what it carried, block b too, since no data bit carries a check
     carries : (c : ℕ) → carried s (a + n * c) ≡ carried t (a + n * c)
-    carries c = carried-agree s t (a + n * c) (λ k l z. go k l z (ℕ-discrete c b))
+    carries c = blocks .carried-agree s t (a + n * c) (λ k l z. go k l z (ℕ-discrete c b))
       where
         own : (k m : ℕ) → k % d ≡ 0 → m % d ≢ 0 → a + n * b + k ≢ a + n * b + m
         own k m z ne e = ne (rw (add-left-cancel (a + n * b) e) at z)
@@ -81,14 +84,15 @@ module _ (n d fill w o : ℕ) (fill-bit : fill < 2) (wide : 2 ≤ w) (order : Or
     next-carries : (c : ℕ) → carried s (a + n * c + n) ≡ carried t (a + n * c + n)
     next-carries c = let e : a + n * suc c ≡ a + n * c + n = omega (arith, mul-suc n c) in rw e at (carries (suc c))
 
-    pub other-agrees : (c : ℕ) → c ≢ b → AgreesAt s (a + n * c) → AgreesAt t (a + n * c)
+    other-agrees : (c : ℕ) → c ≢ b → AgreesAt s (a + n * c) → AgreesAt t (a + n * c)
     other-agrees c ne e = sym (other-check c ne) ∙ e ∙ next-carries c
 
     -- block b agrees as it did, exactly where a multiple of o lies between the two
-    pub still-agrees : AgreesAt s (a + n * b) → AgreesAt t (a + n * b) ↔ (distance i j % o ≡ 0)
+    still-agrees : AgreesAt s (a + n * b) → AgreesAt t (a + n * b) ↔ (distance i j % o ≡ 0)
     still-agrees e =
         let q : ℕ = a + n * b in
-        let (there, back) = hidden-by w wide o order n (checkAt s q) (checkAt t q) i j (h .i-data .0) (h .j-data .0) (hit-shares s t q i j h) in
+        let differ = hit-shares s t q i j h in
+        let (there, back) = hidden-by w (blocks .wide) o (blocks .order) n (checkAt s q) (checkAt t q) i j (h .i-data .0) (h .j-data .0) differ in
         (λ f. there (e ∙ next-carries b ∙ sym f), λ z. sym (back z) ∙ e ∙ next-carries b)
 
     -- 1 where block c disagrees
@@ -106,3 +110,16 @@ module _ (n d fill w o : ℕ) (fill-bit : fill < 2) (wide : 2 ≤ w) (order : Or
         this : Dec (distance i j % o ≡ 0) → off t b ≡ off s b + (if eqb (distance i j % o) 0 then 0 else 1)
         this (yes z) = rw (eq-eqb _ _ z, eq-eqb _ _ e, eq-eqb _ _ (still-agrees e .1 z))
         this (no z) = rw (ne-eqb _ _ z, eq-eqb _ _ e, ne-eqb _ _ (λ k. z (still-agrees e .0 k)))
+
+  -- the blocks of an aligned image
+  module _ (s t : List ℕ) (b i j : ℕ) (h : HitTwice n d s t (n * b) i j) where
+    from-0 : HitTwice n d s t (0 + n * b) i j
+    from-0 = rw (zero-add (n * b)) h
+
+    pub disagrees : AgreesAt s (0 + n * b) → (¬ AgreesAt t (0 + n * b)) ↔ (distance i j % o ≢ 0)
+    disagrees e =
+        let (there, back) = still-agrees s t 0 b i j from-0 e in
+        (λ differ z. differ (back z), λ apart f. apart (there f))
+
+    pub others-stay : (c : ℕ) → c ≢ b → AgreesAt s (n * c) → AgreesAt t (n * c)
+    others-stay c ne e = let z = zero-add (n * c) in rw z at (other-agrees s t 0 b i j from-0 c ne (rw z e))

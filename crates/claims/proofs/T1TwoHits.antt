@@ -2,8 +2,6 @@
 use Prim.Native.Nat.{ℕ, _+_, _-_, _*_, _%_, _<_}
 use mathlib.Core.Path.{_≡_, refl, sym, ap, ap₂, _∙_}
 use mathlib.Core.List.{List}
-use mathlib.Core.Logic.{_≢_, _↔_}
-use native.Mathlib.Nat.{zero-add}
 use native.Mathlib.Omega.{arith}
 use lib.Dec.{eqb, lit<, lit≤}
 use Rattle.base.specs.Choice.{if_then_else_}
@@ -16,12 +14,11 @@ use Rattle.t1read.specs.Reading.{compared, errored}
 use Rattle.t1read.specs.Entry.{accept, Read}
 use Rattle.t1read.specs.declared.Reading.{Reading}
 use Rattle.t1read.proofs.EntryLaws.{read-accepted}
-use Rattle.claims.specs.T1Demand2.{AgreesT1}
-use Rattle.claims.specs.TwoHits.{HitTwice}
 use Rattle.claims.specs.T1TwoHits.{T1TwoHits}
 use Rattle.claims.proofs.Pairs.{t1-all, t1-hidden}
-use Rattle.claims.proofs.HitTwice.{either-not, hit-shares, other-agrees, still-agrees, one-more-off}
+use Rattle.claims.proofs.HitTwice.{Blocks, hit-shares, disagrees, others-stay, one-more-off}
 
+-- the six bits that carry a check are framing bits
 carried-agree : (s t : List ℕ) (q : ℕ) → ((k : ℕ) → k < 4632 → k % 193 ≡ 0 → bitAt s (q + k) ≡ bitAt t (q + k))
     → carried s q ≡ carried t q
 unfolding carried
@@ -29,18 +26,8 @@ carried-agree s t q h =
     spelt-agree 6 (λ i. bitAt s (framingAt q (4 * i + 1))) (λ i. bitAt t (framingAt q (4 * i + 1)))
     (λ i l. h (193 * (4 * i + 1)) (omega arith) (omega arith))
 
-module _ (s t : List ℕ) (a b i j : ℕ) (h : HitTwice 4632 193 s t (a + 4632 * b) i j) where
-  others-agree : (c : ℕ) → c ≢ b → AgreesT1 s a c → AgreesT1 t a c
-  unfolding checkOf
-  others-agree = other-agrees 4632 193 1 6 63 (lit< tt) (lit≤ tt) order-6 carried carried-agree s t a b i j h
-
-  agrees-still : AgreesT1 s a b → AgreesT1 t a b ↔ (distance i j % 63 ≡ 0)
-  unfolding checkOf
-  agrees-still = still-agrees 4632 193 1 6 63 (lit< tt) (lit≤ tt) order-6 carried carried-agree s t a b i j h
-
-  errored-more : (g : ℕ) → b < compared g → AgreesT1 s a b → errored t a g ≡ errored s a g + (if eqb (distance i j % 63) 0 then 0 else 1)
-  unfolding checkOf errored agrees
-  errored-more g = one-more-off 4632 193 1 6 63 (lit< tt) (lit≤ tt) order-6 carried carried-agree s t a b i j h (compared g)
+superframes : Blocks 4632 193 1 6 63 carried
+superframes = record { fill-bit = lit< tt; wide = lit≤ tt; order = order-6; carried-agree = carried-agree }
 
 -- what an accepted reading counts
 counts-of : (s payload link : List ℕ) (r : Reading) (payload' link' : List ℕ)
@@ -50,19 +37,16 @@ unfolding accept
 counts-of s a b r p o h z = rw (read-accepted s a b r p o h z) (refl, refl)
 
 pub t1-two-hits : T1TwoHits
-unfolding checkOf
+unfolding checkOf errored agrees
 t1-two-hits =
     record {
-      seen = λ n s t u v b i j l a h. either-not (agrees-still s t 0 b i j (rw (zero-add (4632 * b)) h) a);
-      shares = hit-shares 4632 193 1 6 63 (lit< tt) (lit≤ tt) order-6 carried carried-agree;
-      last = λ n s t u v i j h agree b l.
-          let e = zero-add (4632 * b) in
-          let last = n - 1 in
-          rw e at (others-agree s t 0 last i j (rw (zero-add (4632 * last)) h) b (λ k. omega arith) (rw e (agree b l)));
+      seen = λ n s t u v b i j l a h. disagrees superframes s t b i j h a;
+      shares = hit-shares superframes;
+      last = λ n s t u v i j h agree b l. others-stay superframes s t (n - 1) i j h b (λ e. omega arith) (agree b l);
       read = λ s p0 o0 r p o h z t p1 o1 r' p' o' h' z' place whole b i j l a hit.
           let (e, c) = counts-of s p0 o0 r p o h z in
           let (e', c') = counts-of t p1 o1 r' p' o' h' z' in
-          e' ∙ ap₂ (errored t) place whole ∙ errored-more s t (r .place) b i j hit (r .whole) (omega arith) a
+          e' ∙ ap₂ (errored t) place whole ∙ one-more-off superframes s t (r .place) b i j hit (compared (r .whole)) (omega arith) a
           ∙ ap (λ x. x + (if eqb (distance i j % 63) 0 then 0 else 1)) (sym e);
       all-pairs = t1-all;
       hidden-pairs = t1-hidden;
