@@ -1,7 +1,7 @@
-// The calls that steps make, but those on a stream and of T1, each with the line that it prints.
+// The calls that steps make, but those on a stream, of T1 and of two hits, each with the line that it prints.
 use crate::chunks::STREAM;
+use crate::hits::T1_TWO_HITS;
 use crate::print::digest;
-use crate::superframes::T1_WRITE_SIGNALLED;
 use align::Why;
 use exchange::State;
 use given::Bench;
@@ -303,7 +303,7 @@ pub fn call(
     let abcd = bench.abcd;
     let image = bench.image;
     match k {
-        0..=ROOM | STREAM..=T1_WRITE_SIGNALLED => state,
+        0..=ROOM | STREAM..=T1_TWO_HITS => state,
         READ => {
             read(label, image, bench);
             state

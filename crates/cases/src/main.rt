@@ -3,6 +3,7 @@
 // a step makes prints a line.
 mod calls;
 mod chunks;
+mod hits;
 mod print;
 mod superframes;
 
@@ -41,7 +42,7 @@ struct Kept {
     stream: Stream,
 }
 
-// a step is a call on the state, on the stream, of T1, or none
+// a step is a call on the state, on the stream, of T1, one of two hits, or none
 fn called(
     label: &[u8],
     words: &[u8],
@@ -54,6 +55,7 @@ fn called(
     let state = calls::call(label, words, bench, kept.state, step.k, row, step.n);
     let stream = chunks::call(label, words, bench, kept.stream, window, step.k, row);
     superframes::call(label, bench, step.k, row);
+    hits::call(label, bench, step.k, row);
     Kept {
         state: state,
         stream: stream,

@@ -13,7 +13,7 @@ const T1_READ: usize = 34;
 
 const T1_WRITE: usize = 35;
 
-pub const T1_WRITE_SIGNALLED: usize = 36;
+const T1_WRITE_SIGNALLED: usize = 36;
 
 // what a read answers, and the digests of its outputs
 fn show_read(label: &[u8], r: Reading, payload: &[u8], link: &[u8]) {

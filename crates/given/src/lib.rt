@@ -1,9 +1,11 @@
 // What the cases are made of: a payload, an overhead, signalling, bits for T1, and a line with its damage.
+pub mod hits;
+
 use program::text::limited;
 ghost use Prim.Native.Nat.{_<_, _≤_};
 
 // The steps of a case, by the lines of this table. Up to ROOM they make something, here; those behind it call.
-pub const STEPS: [u8; 248] = *b"\
+pub const STEPS: [u8; 269] = *b"\
     payload\n\
     overhead\n\
     alike\n\
@@ -40,7 +42,9 @@ pub const STEPS: [u8; 248] = *b"\
     end\n\
     t1-read\n\
     t1-write\n\
-    t1-write-signalled\n";
+    t1-write-signalled\n\
+    two-hits\n\
+    t1-two-hits\n";
 
 const PAYLOAD: usize = 0;
 
@@ -80,7 +84,7 @@ const T1_LINE: usize = 17;
 
 pub const ROOM: usize = 18;
 
-pub const UNKNOWN: usize = 37;
+pub const UNKNOWN: usize = 39;
 
 // A payload, an overhead, XY and ABCD, of one multiframe more than a call takes; bits for T1's data link and signalling,
 // of one superframe more; an image; which of its octets are read, and into how much room.

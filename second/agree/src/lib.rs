@@ -1,8 +1,9 @@
 //! What the agreement tests share: the same reads, lines in chunks, places and
-//! writes, those of signalling and of T1 too, given to the oracle and to another form,
-//! whose answers and octets are held together.
+//! writes, those of signalling and of T1 too, and two hits in one block, given to the
+//! oracle and to another form, whose answers and octets are held together.
 //! Another seed: `SEED=7 cargo test --release`.
 
+mod hits;
 mod losses;
 mod reads;
 mod signals;
@@ -11,6 +12,7 @@ mod t1;
 mod whys;
 mod writes;
 
+pub use hits::{t1_two_hits, two_hits};
 pub use reads::reads;
 pub use signals::{signals, write_signalled_both, writes_signalled};
 pub use streams::{longest, streams, streams_by_octets, Stream};

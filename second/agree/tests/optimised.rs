@@ -129,6 +129,25 @@ fn t1_writes_signalled() {
 }
 
 #[test]
+fn two_hits() {
+    agree::two_hits("the optimised form", |image, payload, slot0| {
+        optimised::read(image, payload, slot0, chain::check)
+    });
+}
+
+#[test]
+fn two_hits_folded() {
+    agree::two_hits("the folded form", |image, payload, slot0| {
+        optimised::read(image, payload, slot0, fold::check)
+    });
+}
+
+#[test]
+fn t1_two_hits() {
+    agree::t1_two_hits("the optimised form", optimised::t1::read);
+}
+
+#[test]
 fn maps() {
     let seed = seed(&format!("{MAPS} mappings, the optimised form"));
     let mut numbers = [0; 6];

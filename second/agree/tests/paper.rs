@@ -1,13 +1,13 @@
 //! The oracle held to the bench cases of the paper, by their numbers, and to
 //! what the paper promises of the loss, of `wordbits`, of `why`, of numbers 3 and
-//! 15, of signalling, of lines in chunks and of T1.
+//! 15, of signalling, of lines in chunks, of T1 and of two hits in one block.
 
 use agree::seed;
 use given::making::{
-    flip, set_basic, set_slot16, shifted, wrong_bits_2, wrong_signals, wrong_words,
+    flip, set_basic, set_slot16, shifted, two_bits, wrong_bits_2, wrong_signals, wrong_words,
 };
 use given::Random;
-use oracle::check::check;
+use oracle::check::{check, PLACES};
 use oracle::line::{bits, number, octets, wrong_bits, BLOCK, FRAME, SIGNAL, WORD};
 use oracle::t1;
 use oracle::why::with_room;
@@ -528,6 +528,128 @@ fn t1_hits_show() {
         image[place] ^= 1;
     }
     assert!(agrees(&image));
+}
+
+/// What blocks are: so many bits, of which 0, d, 2d and so on are no data bits;
+/// where the check of the block before is; and the multiples of which two hits
+/// that hide lie apart.
+struct Blocks {
+    bits: usize,
+    d: usize,
+    check: fn(&[u8]) -> Vec<u8>,
+    places: &'static [usize],
+    hides: usize,
+}
+
+const E1_BLOCKS: Blocks = Blocks {
+    bits: BLOCK,
+    d: 512,
+    check: |block| check(block).to_vec(),
+    places: &PLACES,
+    hides: 15,
+};
+
+const T1_BLOCKS: Blocks = Blocks {
+    bits: t1::SUPERFRAME,
+    d: t1::FRAME,
+    check: |superframe| t1::check(superframe).to_vec(),
+    places: &t1::CHECK,
+    hides: 63,
+};
+
+impl Blocks {
+    /// So many blocks of any bits, each with the check of the one before.
+    fn agreeing(&self, r: &mut Random, count: usize) -> Vec<Vec<u8>> {
+        let mut blocks: Vec<Vec<u8>> = Vec::new();
+        for _ in 0..count {
+            let mut block = bits(&r.octets(self.bits / 8));
+            if let Some(before) = blocks.last() {
+                for (place, bit) in self.places.iter().zip((self.check)(before)) {
+                    block[*place] = bit;
+                }
+            }
+            blocks.push(block);
+        }
+        blocks
+    }
+
+    /// Which of these blocks, all but the last, agree.
+    fn agree(&self, blocks: &[Vec<u8>]) -> Vec<bool> {
+        let carried = |block: &[u8]| -> Vec<u8> { self.places.iter().map(|p| block[*p]).collect() };
+        let agrees = |pair: &[Vec<u8>]| (self.check)(&pair[0]) == carried(&pair[1]);
+        blocks.windows(2).map(agrees).collect()
+    }
+
+    /// What a 1 at this place adds to the check of its block.
+    fn share(&self, place: usize) -> u8 {
+        let mut block = vec![0; self.bits];
+        let none = number(&(self.check)(&block));
+        block[place] = 1;
+        none ^ number(&(self.check)(&block))
+    }
+
+    /// Every distance once, in a block and in the last one.
+    fn two_hits(&self, seed: u64) {
+        for distance in 1..=2_047 {
+            let r = &mut Random::new(seed, distance as u64);
+            let (count, what) = (r.between(2, 4), format!("distance {distance}"));
+            let blocks = self.agreeing(r, count);
+            let mut right = vec![true; count - 1];
+            assert_eq!(self.agree(&blocks), right, "{what}");
+            let mut agree_hit = |block: usize| {
+                let i = two_bits(r, self.bits, self.d, distance)?;
+                let mut blocks = blocks.clone();
+                blocks[block][i] ^= 1;
+                blocks[block][i + distance] ^= 1;
+                Some(self.agree(&blocks))
+            };
+            let last = agree_hit(count - 1);
+            let block = distance % (count - 1);
+            let other = agree_hit(block);
+            // Bit 0 is no data bit.
+            if distance == self.bits - 1 {
+                assert_eq!((last, other), (None, None));
+                continue;
+            }
+            assert_eq!(last.as_ref(), Some(&right), "{what}, the last block");
+            right[block] = distance % self.hides == 0;
+            assert_eq!(other, Some(right), "{what}");
+        }
+    }
+
+    /// How many pairs of data bits there are, and how many have the same share:
+    /// those that hide, and no others.
+    fn pairs(&self) -> (u64, u64) {
+        let data: Vec<(usize, u8)> = (0..self.bits)
+            .filter(|place| place % self.d != 0)
+            .map(|place| (place, self.share(place)))
+            .collect();
+        let (mut all, mut same) = (0, 0);
+        for (n, (j, share_j)) in data.iter().enumerate() {
+            for (i, share_i) in &data[..n] {
+                let alike = share_i == share_j;
+                assert_eq!(alike, (j - i) % self.hides == 0, "bits {i} and {j}");
+                all += 1;
+                same += u64::from(alike);
+            }
+        }
+        (all, same)
+    }
+}
+
+/// Two hits in a block that agreed show but where they lie a multiple of 15
+/// apart, on T1 of 63; in the last block none do.
+#[test]
+fn two_hits_in_the_words_of_the_paper() {
+    let seed = seed("two hits in blocks of any bits, at every distance");
+    E1_BLOCKS.two_hits(seed);
+    T1_BLOCKS.two_hits(seed);
+}
+
+#[test]
+fn pairs_with_the_same_share() {
+    assert_eq!(E1_BLOCKS.pairs(), (2_087_946, 138_244));
+    assert_eq!(T1_BLOCKS.pairs(), (10_614_528, 166_228));
 }
 
 /// What is heard of a line of which slot 16 is this, over and over, frame 0

@@ -4,12 +4,14 @@
 #![forbid(unsafe_code)]
 
 mod chunks;
+mod hits;
 mod t1;
 
 use chunks::chunks;
 use given::making::{
     flip, set_basic, set_slot16, shifted, wrong_bits_2, wrong_signals, wrong_words,
 };
+use hits::two_hits;
 use oracle::line::octets;
 use oracle::{read, signals, why, write, write_signalled, Exchange, Reading};
 use std::fmt::Write;
@@ -46,6 +48,7 @@ pub fn all() -> String {
     signalled_writes(&mut text);
     runs(&mut text);
     t1(&mut text);
+    two_hits(&mut text);
     text
 }
 

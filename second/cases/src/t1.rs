@@ -11,10 +11,15 @@ fn bits(octets: usize) -> Vec<u8> {
     (0..octets).map(|j| of(j) as u8).collect()
 }
 
-fn t1_line(n: usize) -> Vec<u8> {
+pub fn t1_line_of(payload: &[u8]) -> Vec<u8> {
+    let n = payload.len() / 576;
     let mut line = vec![0; 579 * n];
-    write(&payload(576 * n), &bits(12 * n), 5, &mut line);
+    write(payload, &bits(12 * n), 5, &mut line);
     line
+}
+
+fn t1_line(n: usize) -> Vec<u8> {
+    t1_line_of(&payload(576 * n))
 }
 
 fn read_into(text: &mut String, label: &str, image: &[u8], room: usize, room_link: usize) {

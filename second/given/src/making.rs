@@ -1,5 +1,6 @@
 //! Images made from lines: moved, hit, and false from the start.
 
+use crate::Random;
 use oracle::line::{bits, octets, FRAME, WORD};
 
 /// `front` 0 bits, the line, and 0 bits up to a whole octet.
@@ -20,6 +21,18 @@ pub fn whole_octets(image: &mut Vec<u8>, bit: u8) {
 /// Turns over the bit at this place.
 pub fn flip(line: &mut [u8], place: usize) {
     line[place / 8] ^= 128 >> (place % 8);
+}
+
+/// Two data bits of a block that lie so far apart, by the first of them: any
+/// that there are. Bits 0, `d`, 2`d` and so on of the block are no data bits.
+pub fn two_bits(r: &mut Random, block: usize, d: usize, distance: usize) -> Option<usize> {
+    let data = |i: usize| i % d != 0;
+    let firsts = (0..block - distance).filter(|i| data(*i) && data(i + distance));
+    let firsts: Vec<usize> = firsts.collect();
+    match firsts.len() {
+        0 => None,
+        count => Some(firsts[r.below(count)]),
+    }
 }
 
 /// Makes the words of these frames wrong, by their last bit.

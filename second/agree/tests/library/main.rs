@@ -49,6 +49,16 @@ fn t1_writes_signalled() {
     agree::t1_writes_signalled("the library", kit::t1_write_signalled);
 }
 
+#[test]
+fn two_hits() {
+    agree::two_hits("the library", kit::read);
+}
+
+#[test]
+fn t1_two_hits() {
+    agree::t1_two_hits("the library", kit::t1_read);
+}
+
 /// Any octet at each place of the data link and of signalling, the others good.
 #[test]
 fn t1_every_bit() {
