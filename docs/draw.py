@@ -1,9 +1,10 @@
 #!/usr/bin/env python3
-"""Draws docs/multiframe.svg, docs/fold.svg, docs/chunks.svg, docs/exchange.svg and docs/superframe.svg.
+"""Draws docs/multiframe.svg, docs/shares.svg, docs/fold.svg, docs/chunks.svg, docs/exchange.svg and docs/superframe.svg.
 
 docs/draw.py            writes all of them
 docs/draw.py --check    writes nothing, and fails where a file is not what would be written
 """
+import math
 import os
 import sys
 
@@ -101,6 +102,47 @@ def multiframe():
     colours = (CHECK, "check bit, 0 in the division"), (WORD, "alignment word"), (SIGNAL, "multiframe signal"), (E, "E bit")
     parts += legend(450, low, colours)
     return page(right + 236, low + 30, parts)
+
+
+def share(behind):
+    """what a bit adds to the check of E1, by how many bits are behind it"""
+    r = 1
+    for _ in range(behind + 4):
+        r *= 2
+        if r > 15:
+            r ^= 0b10011
+    return r
+
+
+def shares():
+    """the fifteen shares in a ring, and two pairs of hits: one that ends at the same share, one that does not"""
+    across, down, wide, high = 240, 190, 84, 40
+    x0, y0, cards, here, there = 300, 226, 612, 3, 34
+
+    def at(k, part=1.0):
+        """on the ring, or a part of the way to it"""
+        angle = math.radians(24 * k - 90)
+        return x0 + round(part * across * math.cos(angle)), y0 + round(part * down * math.sin(angle))
+
+    parts = []
+    for k in range(15):
+        x, y = at(k)
+        fill = E if k == here else CHECK if k == there % 15 else FIRST
+        parts.append(box(x - wide / 2, y - high / 2, wide, high, fill))
+        parts += [text(x, y - 2, f"{share(k):04b}", style="b"), text(x, y + 13, f"{k}, {k + 15}, {k + 30}, ..", style="s")]
+    (x, y), (u, v) = at(0.5, 0.68), at(2.5, 0.68)
+    parts.append(arrow(f"M{x} {y} A{0.68 * across:.0f} {0.68 * down:.0f} 0 0 1 {u} {v}"))
+    parts.append(lines(x0, y0 - 16, "each share, and below it\nhow many bits are behind\nthe bits that have it:\none more, one step on"))
+    for y, fill, a, b, name in ((84, E, here, here + 30, "two hits that go unseen"), (246, CHECK, here, there, "two hits that are seen")):
+        rounds, over = divmod(b - a, 15)
+        sum_ = share(a) ^ share(b)
+        parts.append(box(cards, y, 330, 108, "#fff"))
+        parts += [box(cards, y, 330, 26, fill, name, "b")]
+        turns = f"{b - a} = {rounds} times 15: {rounds} times round, to the same share" if over == 0 else f"{b - a} is no multiple of 15: another share"
+        words = f"{a} and {b} bits are behind them\n{turns}\n{share(a):04b} + {share(b):04b} = {sum_:04b}"
+        words += "\nthe check stays as it was" if sum_ == 0 else "\nthe check is another, and the block disagrees"
+        parts.append(lines(cards + 14, y + 48, words, "start"))
+    return page(cards + 350, 2 * y0, parts)
 
 
 def fold():
@@ -316,7 +358,7 @@ def main():
     check = sys.argv[1:] == ["--check"]
     if sys.argv[1:] and not check:
         sys.exit(__doc__)
-    for drawn in (multiframe, fold, chunks, exchange, superframe):
+    for drawn in (multiframe, shares, fold, chunks, exchange, superframe):
         name, drawing = f"{drawn.__name__}.svg", drawn()
         path = os.path.join(HERE, name)
         if not check:

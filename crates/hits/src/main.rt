@@ -60,13 +60,13 @@ fn say_no_data(t1: bool, bit: usize) {
     let pen = Pen::new(STDERR_FILENO);
     if t1 {
         pen.fill(
-            b"hits: bit % is a framing bit, which counts as 1 in its own superframe\n",
+            b"hits: bit % is a framing bit: it counts as 1 in its own superframe, hit or not\n",
             &[bit],
         );
         return;
     }
     pen.fill(
-        b"hits: bit % is a check bit, which counts as 0 in its own block: it is of the block before\n",
+        b"hits: bit % is a check bit: it counts as 0 in its own block, hit or not; a hit on it shows in the block before\n",
         &[bit],
     );
 }
