@@ -65,16 +65,16 @@ fn t1_character(bits: [u8; 1440], m: usize) -> u8
 }
 
 // the distances from one to another
-fn show(label: &[u8], overhead: [u8; 136], bits: [u8; 1440], k: usize, row: &[u64; 8]) {
+fn show(label: &[u8], overhead: [u8; 136], bits: [u8; 1440], t1: bool, row: &[u64; 8]) {
     let to = limited(row[1], 2047);
     let from = limited(row[0], to);
     print(label);
     print(b": ");
     for m in from..to + 1 {
-        let c = if k == TWO_HITS {
-            character(overhead, m)
-        } else {
+        let c = if t1 {
             t1_character(bits, m)
+        } else {
+            character(overhead, m)
         };
         print(&[c]);
     }
@@ -86,7 +86,8 @@ pub fn call(label: &[u8], bench: Bench, k: usize, row: &[u64; 8]) {
     let overhead = bench.overhead;
     let bits = bench.bits;
     match k {
-        TWO_HITS | T1_TWO_HITS => show(label, overhead, bits, k, row),
+        TWO_HITS => show(label, overhead, bits, false, row),
+        T1_TWO_HITS => show(label, overhead, bits, true, row),
         _ => {}
     }
 }

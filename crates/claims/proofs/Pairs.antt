@@ -13,7 +13,7 @@ use Rattle.base.specs.Choice.{if_then_else_}
 use Rattle.base.specs.Tab.{sum, count}
 use Rattle.base.proofs.TabLaws.{sum-ext, sum-none, sum-split, sum-runs, sum-grown}
 use Rattle.crc.specs.Share.{distance}
-use Rattle.claims.specs.TwoHits.{isData, pairs}
+use Rattle.claims.specs.TwoHits.{isData, dataPairs}
 
 -- two numbers lie a multiple of o apart exactly if they are alike modulo o
 alike-apart : (o i j : ℕ) → i < j → eqb (distance i j % o) 0 ≡ eqb (i % o) (j % o)
@@ -78,8 +78,8 @@ module _ (t : ℕ → Bool) (o : ℕ) where
           ∙ rw (sum-none o (λ j. 0) (λ j l. refl), zero-add)
 
 pairs-apart : (n d o : ℕ) (u : ℕ → Bool) → 0 < o → ((m : ℕ) → u m ≡ eqb (m % o) 0)
-    → pairs n d u ≡ sum o (λ r. sum (stepped (isData d) o n r) (λ i. i))
-unfolding pairs
+    → dataPairs n d u ≡ sum o (λ r. sum (stepped (isData d) o n r) (λ i. i))
+unfolding dataPairs
 pairs-apart n d o u h w =
     sum-ext n _ _ (λ j l. sum-ext j _ _ (λ i m. rw (w (distance i j))))
     ∙ sym (pairs-made (isData d) o n h)
@@ -89,18 +89,18 @@ pairs-apart n d o u h w =
 times-one : (m : ℕ) → true ≡ eqb (m % 1) 0
 times-one m = sym (eq-eqb (m % 1) 0 (mod-one m))
 
-pub e1-all : pairs 2048 512 (λ m. true) ≡ 2087946
+pub e1-all : dataPairs 2048 512 (λ m. true) ≡ 2087946
 unfolding sum
 e1-all = pairs-apart 2048 512 1 _ (omega arith) times-one
 
-pub e1-hidden : pairs 2048 512 (λ m. eqb (m % 15) 0) ≡ 138244
+pub e1-hidden : dataPairs 2048 512 (λ m. eqb (m % 15) 0) ≡ 138244
 unfolding sum
 e1-hidden = pairs-apart 2048 512 15 _ (omega arith) (λ m. refl)
 
-pub t1-all : pairs 4632 193 (λ m. true) ≡ 10614528
+pub t1-all : dataPairs 4632 193 (λ m. true) ≡ 10614528
 unfolding sum
 t1-all = pairs-apart 4632 193 1 _ (omega arith) times-one
 
-pub t1-hidden : pairs 4632 193 (λ m. eqb (m % 63) 0) ≡ 166228
+pub t1-hidden : dataPairs 4632 193 (λ m. eqb (m % 63) 0) ≡ 166228
 unfolding sum
 t1-hidden = pairs-apart 4632 193 63 _ (omega arith) (λ m. refl)

@@ -16,7 +16,7 @@ use Rattle.t1read.specs.declared.Reading.{Reading}
 use Rattle.t1read.proofs.EntryLaws.{read-accepted}
 use Rattle.claims.specs.T1TwoHits.{T1TwoHits}
 use Rattle.claims.proofs.Pairs.{t1-all, t1-hidden}
-use Rattle.claims.proofs.HitTwice.{Blocks, hit-shares, disagrees, others-stay, one-more-off}
+use Rattle.claims.proofs.HitTwice.{Blocks, hit-shares, disagrees, others-stay, one-more-off, as-many-off}
 
 -- the six bits that carry a check are framing bits
 carried-agree : (s t : List ℕ) (q : ℕ) → ((k : ℕ) → k < 4632 → k % 193 ≡ 0 → bitAt s (q + k) ≡ bitAt t (q + k))
@@ -42,12 +42,16 @@ t1-two-hits =
     record {
       seen = λ n s t u v b i j l a h. disagrees superframes s t b i j h a;
       shares = hit-shares superframes;
-      last = λ n s t u v i j h agree b l. others-stay superframes s t (n - 1) i j h b (λ e. omega arith) (agree b l);
+      last = λ n s t u v i j h b l. others-stay superframes s t (n - 1) i j h b (λ e. omega arith);
       read = λ s p0 o0 r p o h z t p1 o1 r' p' o' h' z' place whole b i j l a hit.
           let (e, c) = counts-of s p0 o0 r p o h z in
           let (e', c') = counts-of t p1 o1 r' p' o' h' z' in
           e' ∙ ap₂ (errored t) place whole ∙ one-more-off superframes s t (r .place) b i j hit (compared (r .whole)) (omega arith) a
           ∙ ap (λ x. x + (if eqb (distance i j % 63) 0 then 0 else 1)) (sym e);
+      read-last = λ s p0 o0 r p o h z t p1 o1 r' p' o' h' z' place whole b i j l hit.
+          let (e, c) = counts-of s p0 o0 r p o h z in
+          let (e', c') = counts-of t p1 o1 r' p' o' h' z' in
+          e' ∙ ap₂ (errored t) place whole ∙ as-many-off superframes s t (r .place) b i j hit (compared (r .whole)) (omega arith) ∙ sym e;
       all-pairs = t1-all;
       hidden-pairs = t1-hidden;
     }

@@ -16,7 +16,7 @@ use Rattle.read.specs.declared.Reading.{Reading}
 use Rattle.read.proofs.EntryLaws.{read-accepted}
 use Rattle.claims.specs.TwoHits.{TwoHits}
 use Rattle.claims.proofs.Pairs.{e1-all, e1-hidden}
-use Rattle.claims.proofs.HitTwice.{Blocks, hit-shares, disagrees, others-stay, one-more-off}
+use Rattle.claims.proofs.HitTwice.{Blocks, hit-shares, disagrees, others-stay, one-more-off, as-many-off}
 
 -- the four bits that carry a check are no data bits
 carried-agree : (s t : List ℕ) (q : ℕ) → ((k : ℕ) → k < 2048 → k % 512 ≡ 0 → bitAt s (q + k) ≡ bitAt t (q + k))
@@ -41,12 +41,16 @@ two-hits =
     record {
       seen = λ n s t u v b i j l a h. disagrees blocks s t b i j h a;
       shares = hit-shares blocks;
-      last = λ n s t u v i j h agree b l. others-stay blocks s t (2 * n - 1) i j h b (λ e. omega arith) (agree b l);
+      last = λ n s t u v i j h b l. others-stay blocks s t (2 * n - 1) i j h b (λ e. omega arith);
       read = λ s p0 o0 r p o h z t p1 o1 r' p' o' h' z' start used b i j l a hit.
           let (e, c) = counts-of s p0 o0 r p o h z in
           let (e', c') = counts-of t p1 o1 r' p' o' h' z' in
           e' ∙ ap₂ (errored t) start used ∙ one-more-off blocks s t (r .start) b i j hit (compared (r .used)) (omega arith) a
           ∙ ap (λ x. x + (if eqb (distance i j % 15) 0 then 0 else 1)) (sym e);
+      read-last = λ s p0 o0 r p o h z t p1 o1 r' p' o' h' z' start used b i j l hit.
+          let (e, c) = counts-of s p0 o0 r p o h z in
+          let (e', c') = counts-of t p1 o1 r' p' o' h' z' in
+          e' ∙ ap₂ (errored t) start used ∙ as-many-off blocks s t (r .start) b i j hit (compared (r .used)) (omega arith) ∙ sym e;
       all-pairs = e1-all;
       hidden-pairs = e1-hidden;
     }

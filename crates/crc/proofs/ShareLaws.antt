@@ -105,7 +105,7 @@ module _ (w : ℕ) (wide : 2 ≤ w) where
       )
 
   -- two bits have one share where a multiple of the order lies between them
-  pub one-share : (o : ℕ) → Order w o → (a c : ℕ) → (share w a ≡ share w c) ↔ (distance a c % o ≡ 0)
+  one-share : (o : ℕ) → Order w o → (a c : ℕ) → (share w a ≡ share w c) ↔ (distance a c % o ≡ 0)
   one-share o order a c = elim (decLt a c) [
     | yes l ↦ (let (there, back) = go c a (omega arith) in
         let d : distance c a ≡ distance a c = add-comm (c - a) (a - c) in
@@ -119,16 +119,21 @@ module _ (w : ℕ) (wide : 2 ≤ w) where
           let d : a - c ≡ distance a c = omega arith in
           rw (e, d) at (Iff·trans (further (a - c) c) (order (a - c)))
 
-  -- so two checks that differ by the shares of bits i and j of n are one there
+  -- the same of bits i and j of n
+  pub same-share : (o : ℕ) → Order w o → (n i j : ℕ) → i < n → j < n
+      → (share w (n - 1 - i) ≡ share w (n - 1 - j)) ↔ (distance i j % o ≡ 0)
+  same-share o order n i j hi hj =
+      rw (from-the-end (n - 1 - i) (n - 1 - j) i j (omega arith)) at (one-share o order (n - 1 - i) (n - 1 - j))
+
+  -- so two checks that differ by the shares of both are one there
   pub hidden-by : (o : ℕ) → Order w o → (n x y i j : ℕ) → i < n → j < n → bitXor x y ≡ bitXor (share w (n - 1 - i)) (share w (n - 1 - j))
       → (x ≡ y) ↔ (distance i j % o ≡ 0)
   hidden-by o order n x y i j hi hj e =
-      let a : ℕ = n - 1 - i in
-      let c : ℕ = n - 1 - j in
-      let d = from-the-end a c i j (omega arith) in
-      let (there, back) = one-share o order a c in (
-        λ q. rw d at (there (xor-eq (share w a) (share w c) (sym e ∙ ap (λ z. bitXor z y) q ∙ xor-self y))),
-        λ q. xor-eq x y (e ∙ ap (λ z. bitXor z (share w c)) (back (rw (← d) at q)) ∙ xor-self (share w c)),
+      let a : ℕ = share w (n - 1 - i) in
+      let c : ℕ = share w (n - 1 - j) in
+      let (there, back) = same-share o order n i j hi hj in (
+        λ q. there (xor-eq a c (sym e ∙ ap (λ z. bitXor z y) q ∙ xor-self y)),
+        λ q. xor-eq x y (e ∙ ap (λ z. bitXor z c) (back q) ∙ xor-self c),
       )
 
   -- blocks of n bits, of which each d-th is read as b, that differ in two data bits

@@ -5,10 +5,10 @@ use Rattle.cases.proofs.hits.show.Statement.{statement}
 use Rattle.cases.proofs.hits.show.Tie as tie
 
 abbrev Inv-loop : tie.InvT-loop
-Inv-loop label overhead bits k row to from m₀ t11 m-end m = m ≤ to + 1
+Inv-loop label overhead bits t1 row to from m₀ t11 m-end m = m ≤ to + 1
 
 abbrev μ-loop : tie.MeasureT-loop
-μ-loop label overhead bits k row to from m₀ t11 m-end m = to + 1 - m
+μ-loop label overhead bits t1 row to from m₀ t11 m-end m = to + 1 - m
 
 pub show-spec : {M : Type 1} → statement M
 show-spec =
