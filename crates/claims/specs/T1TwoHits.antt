@@ -12,7 +12,7 @@ use Rattle.t1.specs.Superframe.{superCheck}
 use Rattle.t1read.specs.Entry.{Read}
 use Rattle.t1read.specs.declared.Reading.{Reading}
 use Rattle.claims.specs.T1Demand2.{AgreesT1}
-use Rattle.claims.specs.T1Demand3.{AlignedT1, AgreeingT1}
+use Rattle.claims.specs.T1Demand3.{AlignedT1}
 use Rattle.claims.specs.TwoHits.{HitTwice, dataPairs}
 
 pub record T1TwoHits : Type 0 where

@@ -15,7 +15,7 @@ use Rattle.e1.specs.Block.{blockCheck}
 use Rattle.read.specs.Entry.{Read}
 use Rattle.read.specs.declared.Reading.{Reading}
 use Rattle.claims.specs.Counts.{Agrees}
-use Rattle.claims.specs.Demand3.{Aligned, Agreeing}
+use Rattle.claims.specs.Demand3.{Aligned}
 
 -- A block has n bits, of which each d-th, from the first on, is no data bit: n and d are 2,048 and 512 on E1, 4,632 and 193
 -- on T1.
