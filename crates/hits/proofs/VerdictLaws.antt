@@ -1,17 +1,62 @@
--- Both kinds of line are sound, and bits that are not said to be outside lie in the block.
-use Prim.Native.Nat.{ℕ, _<_}
+-- The numbers of both lines are in range, two bits add the same exactly where the order divides their distance, and bits
+-- that are not said to be outside lie in the block.
+use Prim.Native.Nat.{ℕ, _%_, _≤_, _<_}
 use mathlib.Core.Path.{_≡_, refl, sym, ap, _∙_}
+use mathlib.Core.Logic.{_↔_}
 use mathlib.Core.Bool.{Bool, true, false, true≢false, _||_}
 use mathlib.Mathlib.Data.Bool.Basic.{or-eq-false-eq-eq-false-and-eq-false}
-use borrow.Author.Tests.{leb-false}
-use lib.Dec.{leb, lit<, lit≤}
-use Rattle.hits.specs.Verdict.{verdict, kindOf, Sound}
+use borrow.Author.Tests.{leb-false, eqb-true, eqb-false, eq-eqb, ne-eqb}
+use lib.Dec.{eqb, leb, lit<, lit≤}
+use Rattle.crc.specs.Share.{distance}
+use Rattle.crc.proofs.Order.{order-4, order-6}
+use Rattle.crc.proofs.ShareLaws.{same-share}
+use Rattle.hits.specs.Verdict.{formOf, shareOf, verdict}
+use Rattle.hits.specs.declared.judge.Form.{Form}
 use Rattle.hits.specs.declared.judge.Verdict.{Verdict}
 use Rattle.hits.specs.declared.judge.Verdict.the-variants.{Outside, NoData, OneBit, Hidden, Seen}
 
-pub kind-sound : (t1 : Bool) → Sound (kindOf t1)
-kind-sound true = record { few = lit≤ tt; strided = lit< tt; comes-round = lit< tt; wide = lit≤ tt; narrow = lit≤ tt }
-kind-sound false = record { few = lit≤ tt; strided = lit< tt; comes-round = lit< tt; wide = lit≤ tt; narrow = lit≤ tt }
+pub some-order : (t1 : Bool) → 0 < formOf t1 .order
+unfolding formOf
+some-order true = lit< tt
+some-order false = lit< tt
+
+pub some-every : (t1 : Bool) → 0 < formOf t1 .every
+unfolding formOf
+some-every true = lit< tt
+some-every false = lit< tt
+
+pub few-bits : (t1 : Bool) → formOf t1 .bits ≤ 4632
+unfolding formOf
+few-bits true = lit≤ tt
+few-bits false = lit≤ tt
+
+pub wide-enough : (t1 : Bool) → 2 ≤ formOf t1 .width
+unfolding formOf
+wide-enough true = lit≤ tt
+wide-enough false = lit≤ tt
+
+pub narrow-enough : (t1 : Bool) → formOf t1 .width ≤ 6
+unfolding formOf
+narrow-enough true = lit≤ tt
+narrow-enough false = lit≤ tt
+
+-- tests that hold in the same cases
+eqb-iff : (a b c d : ℕ) → (a ≡ b) ↔ (c ≡ d) → eqb a b ≡ eqb c d
+eqb-iff a b c d (there, back) = go (eqb a b) refl
+  where
+    go : (t : Bool) → eqb a b ≡ t → eqb a b ≡ eqb c d
+    go true e = e ∙ sym (eq-eqb c d (there (eqb-true a b e)))
+    go false e = e ∙ sym (ne-eqb c d (λ q. eqb-false a b e (back q)))
+
+pub hidden-at-multiples : (t1 : Bool) (a b : ℕ) → a < formOf t1 .bits → b < formOf t1 .bits
+    → eqb (shareOf (formOf t1) a) (shareOf (formOf t1) b) ≡ eqb (distance a b % formOf t1 .order) 0
+unfolding formOf
+hidden-at-multiples true a b ha hb = eqb-iff _ _ _ _ (same-share 6 (lit≤ tt) 63 order-6 4632 a b ha hb)
+hidden-at-multiples false a b ha hb = eqb-iff _ _ _ _ (same-share 4 (lit≤ tt) 15 order-4 2048 a b ha hb)
+
+pub in-range : (n a b : ℕ) → leb n a || leb n b ≡ false → (a < n) × (b < n)
+in-range n a b e =
+    let p = or-eq-false-eq-eq-false-and-eq-false (leb n a) (leb n b) .0 e in (leb-false n a (p .0), leb-false n b (p .1))
 
 abbrev pub isOutside : Verdict → Bool
 isOutside Outside = true
@@ -20,12 +65,10 @@ isOutside (OneBit i) = false
 isOutside (Hidden m) = false
 isOutside (Seen m) = false
 
-pub in-block : (n d o a b : ℕ) (v : Verdict) → v ≡ verdict n d o a b → isOutside v ≡ false → (a < n) × (b < n)
+pub in-block : (k : Form) (a b : ℕ) (v : Verdict) → v ≡ verdict k a b → isOutside v ≡ false → (a < k .bits) × (b < k .bits)
 unfolding verdict
-in-block n d o a b v is h = go (leb n a || leb n b) refl
+in-block k a b v is h = go (leb (k .bits) a || leb (k .bits) b) refl
   where
-    go : (t : Bool) → leb n a || leb n b ≡ t → (a < n) × (b < n)
+    go : (t : Bool) → leb (k .bits) a || leb (k .bits) b ≡ t → (a < k .bits) × (b < k .bits)
     go true e = let out : v ≡ Outside = is ∙ rw e in absurd (true≢false (sym (ap isOutside out) ∙ h))
-    go false e =
-        let p = or-eq-false-eq-eq-false-and-eq-false (leb n a) (leb n b) .0 e in
-        (leb-false n a (p .0), leb-false n b (p .1))
+    go false e = in-range (k .bits) a b e

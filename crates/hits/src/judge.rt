@@ -1,29 +1,28 @@
 // Whether the check sees two hits on bits of one block.
 ghost use mathlib.Core.Path.{_≡_};
 ghost use Rattle.crc.specs.Share.{distance};
-ghost use Rattle.hits.specs.Verdict.{verdict, kindOf, Sound};
+ghost use Rattle.hits.specs.Verdict.{verdict, formOf};
 
-// a kind of line: how many bits a block has, each how many-th of them is no data bit, after how many the list of shares
-// comes round, and how many bits a check has
-pub struct Kind {
+// of a block: how many bits, each how many-th is no data bit, after how many bits shares come round, how many bits a check has
+pub struct Form {
     pub bits: usize,
     pub every: usize,
     pub order: usize,
     pub width: usize,
 }
 
-pub fn kind_of(t1: bool) -> Kind
-    ensures { λ k. ⌜ (k ≡ kindOf t1) × Sound k ⌝ }
+pub fn form_of(t1: bool) -> Form
+    ensures { λ k. ⌜ k ≡ formOf t1 ⌝ }
 {
     if t1 {
-        return Kind {
+        return Form {
             bits: 4632,
             every: 193,
             order: 63,
             width: 6,
         };
     }
-    Kind {
+    Form {
         bits: 2048,
         every: 512,
         order: 15,
@@ -49,10 +48,10 @@ fn distance(a: usize, b: usize) -> usize
 }
 
 // The bits may be any numbers.
-pub fn judged(k: Kind, a: usize, b: usize) -> Verdict
-    requires { ⌜ Sound k ⌝ }
-    ensures { λ v. ⌜ v ≡ verdict (k .bits) (k .every) (k .order) a b ⌝ }
+pub fn verdict_of(t1: bool, a: usize, b: usize) -> Verdict
+    ensures { λ v. ⌜ v ≡ verdict (formOf t1) a b ⌝ }
 {
+    let k = form_of(t1);
     if (k.bits <= a) | (k.bits <= b) {
         return Verdict::Outside;
     }

@@ -3,19 +3,16 @@
 mod judge;
 mod share;
 
-use judge::Kind;
 use judge::Verdict;
 use libc::STDERR_FILENO;
 use libc::STDOUT_FILENO;
 use pen::Pen;
 use program::text::Spelt;
 ghost use Prim.Native.Nat.{_<_, _≤_};
-ghost use Rattle.hits.specs.Verdict.{Sound};
+ghost use Rattle.hits.specs.Verdict.{formOf};
 
-// the width lowest bits of r
-fn bits(pen: Pen, r: usize, width: usize) -> Pen
-    requires { ⌜ width ≤ 6 ⌝ }
-{
+// r, in as many bits as a check has
+fn bits(pen: Pen, t1: bool, r: usize) -> Pen {
     let digits = [
         b'0' + (r / 32 % 2) as u8,
         b'0' + (r / 16 % 2) as u8,
@@ -24,26 +21,22 @@ fn bits(pen: Pen, r: usize, width: usize) -> Pen
         b'0' + (r / 2 % 2) as u8,
         b'0' + (r % 2) as u8,
     ];
-    let a = 6 - width;
+    let a = 6 - judge::form_of(t1).width;
     pen.text(&digits[a..])
 }
 
 // what both bits add to the check, and the end of the output
-fn shares(pen: Pen, k: Kind, a: usize, b: usize)
-    requires { ⌜ Sound k × (a < k .bits) × (b < k .bits) ⌝ }
+fn shares(pen: Pen, t1: bool, a: usize, b: usize)
+    requires { ⌜ (a < formOf t1 .bits) × (b < formOf t1 .bits) ⌝ }
 {
-    let first = share::share_of(k, a);
-    let second = share::share_of(k, b);
-    let pen = bits(pen.fill(b"bit % adds ", &[a]), first, k.width);
-    let pen = bits(
-        pen.fill(b" to the check\nbit % adds ", &[b]),
-        second,
-        k.width,
-    );
+    let first = share::share_of(t1, a);
+    let second = share::share_of(t1, b);
+    let pen = bits(pen.fill(b"bit % adds ", &[a]), t1, first);
+    let pen = bits(pen.fill(b" to the check\nbit % adds ", &[b]), t1, second);
     let pen = bits(
         pen.text(b" to the check\ntogether they add "),
+        t1,
         first ^ second,
-        k.width,
     );
     program::written(b"hits", pen.text(b"\n").written);
 }
@@ -60,7 +53,8 @@ fn say_no_data(t1: bool, bit: usize) {
     let pen = Pen::new(STDERR_FILENO);
     if t1 {
         pen.fill(
-            b"hits: bit % is a framing bit: it counts as 1 in its own superframe, hit or not\n",
+            b"hits: bit % is a framing bit: it counts as 1 in its own superframe, hit or not; \
+              where it carries a check, a hit on it shows in the superframe before\n",
             &[bit],
         );
         return;
@@ -76,26 +70,24 @@ fn say_one_bit(bit: usize) {
 }
 
 // the first line of the output
-fn unseen(k: Kind, apart: usize) -> Pen
-    requires { ⌜ Sound k ⌝ }
-{
-    let times = apart / k.order;
-    Pen::new(STDOUT_FILENO).fill(b"unseen: % apart, % times %\n", &[apart, times, k.order])
+fn unseen(t1: bool, apart: usize) -> Pen {
+    let order = judge::form_of(t1).order;
+    let times = apart / order;
+    Pen::new(STDOUT_FILENO).fill(b"unseen: % apart, % times %\n", &[apart, times, order])
 }
 
-fn seen(k: Kind, apart: usize) -> Pen {
-    Pen::new(STDOUT_FILENO).fill(b"seen: % apart, no multiple of %\n", &[apart, k.order])
+fn seen(t1: bool, apart: usize) -> Pen {
+    let order = judge::form_of(t1).order;
+    Pen::new(STDOUT_FILENO).fill(b"seen: % apart, no multiple of %\n", &[apart, order])
 }
 
 fn answer(t1: bool, a: usize, b: usize) {
-    let k = judge::kind_of(t1);
-    let v = judge::judged(k, a, b);
-    match v {
+    match judge::verdict_of(t1, a, b) {
         Verdict::Outside => say_outside(t1),
         Verdict::NoData { bit } => say_no_data(t1, bit),
         Verdict::OneBit { bit } => say_one_bit(bit),
-        Verdict::Hidden { apart } => shares(unseen(k, apart), k, a, b),
-        Verdict::Seen { apart } => shares(seen(k, apart), k, a, b),
+        Verdict::Hidden { apart } => shares(unseen(t1, apart), t1, a, b),
+        Verdict::Seen { apart } => shares(seen(t1, apart), t1, a, b),
     }
 }
 

@@ -1,10 +1,10 @@
 // What a bit adds to the check of its block, bit by bit.
-use crate::judge::Kind;
+use crate::judge;
 ghost use mathlib.Core.Path.{_≡_};
-ghost use Prim.Native.Nat.{_-_, _^_, _<_, _≤_};
+ghost use Prim.Native.Nat.{_^_, _<_, _≤_};
 ghost use Rattle.crc.specs.Remainder.{step};
 ghost use Rattle.crc.specs.Share.{share};
-ghost use Rattle.hits.specs.Verdict.{Sound};
+ghost use Rattle.hits.specs.Verdict.{formOf, shareOf};
 
 // one bit 0 more: doubled, and where x^w comes out, x + 1 stands for it
 fn step(w: usize, r: usize) -> usize
@@ -30,9 +30,10 @@ fn share(w: usize, k: usize) -> usize
     r
 }
 
-pub fn share_of(k: Kind, bit: usize) -> usize
-    requires { ⌜ Sound k × (bit < k .bits) ⌝ }
-    ensures { λ r. ⌜ r ≡ share (k .width) (k .bits - 1 - bit) ⌝ }
+pub fn share_of(t1: bool, bit: usize) -> usize
+    requires { ⌜ bit < formOf t1 .bits ⌝ }
+    ensures { λ r. ⌜ r ≡ shareOf (formOf t1) bit ⌝ }
 {
+    let k = judge::form_of(t1);
     share(k.width, k.bits - 1 - bit)
 }
