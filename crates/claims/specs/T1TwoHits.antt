@@ -27,8 +27,8 @@ pub record T1TwoHits : Type 0 where
   -- With both in the last superframe, each one before it agrees exactly if it did.
   pub last : (n : ℕ) (s t : List ℕ) → AlignedT1 s n → AlignedT1 t n → (i j : ℕ) → HitTwice 4632 193 s t (4632 * (n - 1)) i j
       → (b : ℕ) → b + 1 < n → AgreesT1 s 0 b ↔ AgreesT1 t 0 b
-  -- `read` counts one errored superframe more or none, by the same rule, as long as place and whole stay; since place does
-  -- not where the first one disagrees, that is of those behind it;
+  -- `read` counts one errored superframe more or none, by the same rule, as long as place and whole stay, which they do not
+  -- where the first one disagrees;
   pub read : (s payload link : List ℕ) (r : Reading) (payload' link' : List ℕ)
       → Read s payload link r payload' link' → r .number ≡ 0
       → (t payload-t link-t : List ℕ) (r' : Reading) (payload-t' link-t' : List ℕ)

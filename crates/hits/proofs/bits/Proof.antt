@@ -1,6 +1,6 @@
 -- `bits` is safe: no check has more than six bits.
 use borrow.Author.Needs.{needs}
-use Rattle.hits.proofs.VerdictLaws.{narrow-enough}
+use Rattle.hits.proofs.VerdictLaws.{form-fits}
 use Rattle.hits.proofs.bits.Statement.{statement}
 use Rattle.hits.proofs.bits.Tie as tie
 
@@ -10,5 +10,5 @@ bits-spec =
     (tie.spec
     (search needs) (search needs) (search needs) (search needs) (search needs) (search needs) (search needs)
     (search needs) (search needs) (search needs) (search needs) (search needs) (search needs)
-    (λ c. rw (c .before .form-of .ensures) (narrow-enough _))
+    (λ c. rw (c .before .form-of .ensures) (form-fits _ .narrow))
     (search needs) (search needs) (search needs) (search needs) (search needs))

@@ -2,7 +2,7 @@
 use borrow.Author.Needs.{needs}
 use borrow.Author.Tests.{eq-eqb, ne-eqb}
 use Rattle.hits.specs.Verdict.{verdict}
-use Rattle.hits.proofs.VerdictLaws.{some-every, some-order, in-range, hidden-at-multiples}
+use Rattle.hits.proofs.VerdictLaws.{form-fits, of-data-bits}
 use Rattle.hits.proofs.judge.verdict_of.Statement.{statement}
 use Rattle.hits.proofs.judge.verdict_of.Tie as tie
 
@@ -43,41 +43,27 @@ returns-4 c =
     )
 
 returns-5 : tie.Need-returns-5
-unfolding verdict
 returns-5 c =
     let e = c .before .before in
     let b = e .before .before in
     let a = b .before .before in
     let i = a .before .before in
     let f = i .before .before .before .form-of .ensures in
-    let l = in-range _ _ _ (rw f at (i .if1 .left)) in
     rw (
-      hidden-at-multiples _ _ _ (l .0) (l .1),
-      ← f,
-      i .if1 .left,
-      ne-eqb _ 0 (a .if2 .left),
-      ne-eqb _ 0 (b .if3 .left),
-      ne-eqb _ _ (e .before .if4 .left),
+      of-data-bits _ _ _ _ f (i .if1 .left) (a .if2 .left) (b .if3 .left) (e .before .if4 .left),
       ← e .distance .ensures,
       eq-eqb _ 0 (c .if5 .taken),
     )
 
 returns-6 : tie.Need-returns-6
-unfolding verdict
 returns-6 c =
     let e = c .before .before in
     let b = e .before .before in
     let a = b .before .before in
     let i = a .before .before in
     let f = i .before .before .before .form-of .ensures in
-    let l = in-range _ _ _ (rw f at (i .if1 .left)) in
     rw (
-      hidden-at-multiples _ _ _ (l .0) (l .1),
-      ← f,
-      i .if1 .left,
-      ne-eqb _ 0 (a .if2 .left),
-      ne-eqb _ 0 (b .if3 .left),
-      ne-eqb _ _ (e .before .if4 .left),
+      of-data-bits _ _ _ _ f (i .if1 .left) (a .if2 .left) (b .if3 .left) (e .before .if4 .left),
       ← e .distance .ensures,
       ne-eqb _ 0 (c .if5 .left),
     )
@@ -88,12 +74,12 @@ verdict-of-spec =
     (tie.spec
     (search needs)
     returns
-    (λ c. rw (c .before .before .before .before .form-of .ensures) (some-every _))
+    (λ c. rw (c .before .before .before .before .form-of .ensures) (form-fits _ .strided))
     returns-2
-    (λ c. rw (c .before .before .before .before .before .before .form-of .ensures) (some-every _))
+    (λ c. rw (c .before .before .before .before .before .before .form-of .ensures) (form-fits _ .strided))
     returns-3
     returns-4
     (search needs)
-    (λ c. rw (c .before .before .before .before .before .before .before .before .before .before .form-of .ensures) (some-order _))
+    (λ c. rw (c .before .before .before .before .before .before .before .before .before .before .form-of .ensures) (form-fits _ .ordered))
     returns-5
     returns-6)
