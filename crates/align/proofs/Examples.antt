@@ -7,11 +7,11 @@ use mathlib.Core.Option.{none, some}
 use lib.Dec.{eqb, leb}
 use lib.ListN.{get_or}
 use Rattle.line.specs.Bit.{bit_at}
-use Rattle.base.specs.Tab.{tab, tabFrom, sum, all, first}
+use Rattle.base.specs.Tab.{tab, tab_from, sum, all, first}
 use Rattle.line.specs.Signal.{signal}
-use Rattle.e1.specs.Frame.{wrongBits, firstWrong}
-use Rattle.align.specs.Place.{basic, signalAt, pair_at, standing, firstStanding}
-use Rattle.align.specs.Why.{judged, whyRefusal, why}
+use Rattle.e1.specs.Frame.{wrong_bits, first_wrong}
+use Rattle.align.specs.Place.{basic, signal_at, pair_at, standing, first_standing}
+use Rattle.align.specs.Why.{judged, why_refusal, why}
 use Rattle.align.specs.declared.Why.TheVariants.{NoneFails, FirstWord, NoPair, Refused}
 
 -- n octets: the word in every other frame; m(k) is 1 before a, and from there on the signal and two 0s over and over
@@ -20,40 +20,40 @@ image a n =
     tab n
     (λ i. cond (eqb (i % 64) 0) 27 (cond (eqb (i % 64) 32) (64 + 128 * cond (leb a (i / 64)) (get_or signal ((i / 64 - a) % 8) 0) 1) 0))
 
-at_once : firstStanding (image 0 2048) ≡ some (record { place = 0; k = 0 })
-unfolding image firstStanding first standing basic pair_at signalAt all bit_at wrongBits sum tabFrom
+at_once : first_standing (image 0 2048) ≡ some (record { place = 0; k = 0 })
+unfolding image first_standing first standing basic pair_at signal_at all bit_at wrong_bits sum tab_from
 at_once = refl
 
-an-octet-on : firstStanding (0 ∷ image 0 2048) ≡ some (record { place = 8; k = 0 })
-unfolding image firstStanding first standing basic pair_at signalAt all bit_at wrongBits sum tabFrom
-an-octet-on = refl
+an_octet_on : first_standing (0 ∷ image 0 2048) ≡ some (record { place = 8; k = 0 })
+unfolding image first_standing first standing basic pair_at signal_at all bit_at wrong_bits sum tab_from
+an_octet_on = refl
 
-an-octet-short : firstStanding (image 0 2047) ≡ none
-unfolding image firstStanding first standing basic pair_at signalAt all bit_at wrongBits sum tabFrom
-an-octet-short = refl
+an_octet_short : first_standing (image 0 2047) ≡ none
+unfolding image first_standing first standing basic pair_at signal_at all bit_at wrong_bits sum tab_from
+an_octet_short = refl
 
 -- 18 is the last k that there is
-last-k : firstStanding (image 18 2048) ≡ some (record { place = 0; k = 18 })
-unfolding image firstStanding first standing basic pair_at signalAt all bit_at wrongBits sum tabFrom
-last-k = refl
+last_k : first_standing (image 18 2048) ≡ some (record { place = 0; k = 18 })
+unfolding image first_standing first standing basic pair_at signal_at all bit_at wrong_bits sum tab_from
+last_k = refl
 
-past-the-last-k : firstStanding (image 19 2048) ≡ none
-unfolding image firstStanding first standing basic pair_at signalAt all bit_at wrongBits sum tabFrom
-past-the-last-k = refl
+past_the_last_k : first_standing (image 19 2048) ≡ none
+unfolding image first_standing first standing basic pair_at signal_at all bit_at wrong_bits sum tab_from
+past_the_last_k = refl
 
-said-with-18 : why (image 18 2048) 0 ≡ NoneFails 18
-unfolding image why whyRefusal judged first pair_at signalAt all bit_at wrongBits sum tabFrom
-said-with-18 = refl
+said_with_18 : why (image 18 2048) 0 ≡ NoneFails 18
+unfolding image why why_refusal judged first pair_at signal_at all bit_at wrong_bits sum tab_from
+said_with_18 = refl
 
-said-of-19 : why (image 19 2048) 0 ≡ NoPair
-unfolding image why whyRefusal judged first pair_at signalAt all bit_at wrongBits sum tabFrom
-said-of-19 = refl
+said_of_19 : why (image 19 2048) 0 ≡ NoPair
+unfolding image why why_refusal judged first pair_at signal_at all bit_at wrong_bits sum tab_from
+said_of_19 = refl
 
 -- an octet of zeros: the first 1 of the word is not there
-said-of-zeros : why (image 0 2049) 8 ≡ FirstWord 11
-unfolding image why whyRefusal judged first pair_at signalAt all bit_at wrongBits firstWrong sum tabFrom
-said-of-zeros = refl
+said_of_zeros : why (image 0 2049) 8 ≡ FirstWord 11
+unfolding image why why_refusal judged first pair_at signal_at all bit_at wrong_bits first_wrong sum tab_from
+said_of_zeros = refl
 
-too-late : why (image 0 2049) 9 ≡ Refused 14
-unfolding image why whyRefusal tabFrom
-too-late = refl
+too_late : why (image 0 2049) 9 ≡ Refused 14
+unfolding image why why_refusal tab_from
+too_late = refl

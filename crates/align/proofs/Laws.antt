@@ -13,20 +13,20 @@ use lib.ListN.{length, get_or}
 use Rattle.line.specs.Bit.{bit_at, field}
 use Rattle.base.specs.Tab.{least}
 use Rattle.base.proofs.ChoiceLaws.{denies}
-use Rattle.base.proofs.TabLaws.{all-at, at_all, least-some, least-none, none-least, first_some, first-none, none_first}
+use Rattle.base.proofs.TabLaws.{all_at, at_all, least_some, least_none, none_least, first_some, first_none, none_first}
 use Rattle.base.proofs.TabLaws.{some_first}
 use Rattle.line.specs.Signal.{signal}
 use Rattle.e1.specs.Frame.{word_at}
 use Rattle.e1.proofs.WordLaws.{word_holds}
-use Rattle.align.specs.Place.{basic, basicWithRoom, mark, signalAt, againAt, pair_at, Standing, withPlace}
-use Rattle.align.specs.Place.{standing, firstStanding, firstBasic, found, foundIn}
+use Rattle.align.specs.Place.{basic, basic_with_room, mark, signal_at, again_at, pair_at, Standing, with_place}
+use Rattle.align.specs.Place.{standing, first_standing, first_basic, found, found_in}
 use Rattle.align.specs.Stands.{Basic, BasicFirst, Signal, Pair, Stands, StandsFirst}
 use Rattle.align.specs.Window.{Wanted}
 use Rattle.align.specs.declared.Found.TheVariants.{At, BasicAt, Nothing}
 
 -- one of j = 1, 2, 3 passes
-some-j-passes : (t : ℕ → Bool) → t 1 || (t 2 || t 3) ≡ true ↔ ((j : ℕ) × (1 ≤ j) × (j ≤ 3) × (t j ≡ true))
-some-j-passes t = (there (t 1) (t 2) refl refl, λ h. back h.0 h.1 h.2 h.3)
+some_j_passes : (t : ℕ → Bool) → t 1 || (t 2 || t 3) ≡ true ↔ ((j : ℕ) × (1 ≤ j) × (j ≤ 3) × (t j ≡ true))
+some_j_passes t = (there (t 1) (t 2) refl refl, λ h. back h.0 h.1 h.2 h.3)
   where
     there : (a b : Bool) → t 1 ≡ a → t 2 ≡ b → a || (b || t 3) ≡ true → (j : ℕ) × (1 ≤ j) × (j ≤ 3) × (t j ≡ true)
     there true b p q e = (1, omega arith, omega arith, p)
@@ -42,147 +42,147 @@ some-j-passes t = (there (t 1) (t 2) refl refl, λ h. back h.0 h.1 h.2 h.3)
 
 module _ (s : List ℕ) (p : ℕ) where
   -- basic alignment, by what is tested
-  pub basic-parts : (word_at s p ≡ true) × (eqb (bit_at s (p + 257)) 1 ≡ true) × (word_at s (p + 512) ≡ true) ↔ Basic s p
-  basic-parts = (
+  pub basic_parts : (word_at s p ≡ true) × (eqb (bit_at s (p + 257)) 1 ≡ true) × (word_at s (p + 512) ≡ true) ↔ Basic s p
+  basic_parts = (
     λ t.
         record {
           word = (word_holds s p).0 t.0;
-          bit-2 = eqb-true _ _ t.1;
-          word-again = rw next at ((word_holds s (p + 512)).0 t.2);
+          bit_2 = eqb-true _ _ t.1;
+          word_again = rw next at ((word_holds s (p + 512)).0 t.2);
         },
     λ h.
-        let again : field s (p + 512 + 1) 7 ≡ 27 = rw next h.word-again in
-        ((word_holds s p).1 h.word, eq-eqb _ _ h.bit-2, (word_holds s (p + 512)).1 again),
+        let again : field s (p + 512 + 1) 7 ≡ 27 = rw next h.word_again in
+        ((word_holds s p).1 h.word, eq-eqb _ _ h.bit_2, (word_holds s (p + 512)).1 again),
   )
     where
       next : p + 512 + 1 ≡ p + 513
       next = omega arith
 
-  pub basic-holds : basic s p ≡ true ↔ Basic s p
+  pub basic_holds : basic s p ≡ true ↔ Basic s p
   unfolding basic
-  basic-holds = (there, λ h. let t = basic-parts.1 h in rw (t.0, t.1, t.2))
+  basic_holds = (there, λ h. let t = basic_parts.1 h in rw (t.0, t.1, t.2))
     where
       there : basic s p ≡ true → Basic s p
       there e =
           let a = (and-eq-true_iff (word_at s p) (eqb (bit_at s (p + 257)) 1 && word_at s (p + 512))).0 e in
           let b = (and-eq-true_iff (eqb (bit_at s (p + 257)) 1) (word_at s (p + 512))).0 a.1 in
-          basic-parts.0 (a.0, b.0, b.1)
+          basic_parts.0 (a.0, b.0, b.1)
 
-  pub signal-holds : (k : ℕ) → signalAt s p k ≡ true ↔ Signal s p k
-  unfolding signalAt
-  signal-holds k =
+  pub signal_holds : (k : ℕ) → signal_at s p k ≡ true ↔ Signal s p k
+  unfolding signal_at
+  signal_holds k =
       let t : ℕ → Bool = λ i. eqb (mark s p (k + i)) (get_or signal i 0) in
-      (λ e i h. eqb-true _ _ (all-at 6 t e i h), λ h. at_all 6 t (λ i l. eq-eqb _ _ (h i l)))
+      (λ e i h. eqb-true _ _ (all_at 6 t e i h), λ h. at_all 6 t (λ i l. eq-eqb _ _ (h i l)))
 
-  pub pair-holds : (k : ℕ) → pair_at s p k ≡ true ↔ Pair s p k
+  pub pair_holds : (k : ℕ) → pair_at s p k ≡ true ↔ Pair s p k
   unfolding pair_at
-  pair-holds k = (there, back)
+  pair_holds k = (there, back)
     where
       there : pair_at s p k ≡ true → Pair s p k
       there e =
-          let a = (and-eq-true_iff (signalAt s p k) (againAt s p k 1 || (againAt s p k 2 || againAt s p k 3))).0 e in
-          let b = (some-j-passes (againAt s p k)).0 a.1 in
+          let a = (and-eq-true_iff (signal_at s p k) (again_at s p k 1 || (again_at s p k 2 || again_at s p k 3))).0 e in
+          let b = (some_j_passes (again_at s p k)).0 a.1 in
           let j = b.0 in
-          let d = (and-eq-true_iff (leb (k + 8 * j + 5) 31) (signalAt s p (k + 8 * j))).0 b.3 in
+          let d = (and-eq-true_iff (leb (k + 8 * j + 5) 31) (signal_at s p (k + 8 * j))).0 b.3 in
           record {
-            here = (signal-holds k).0 a.0;
+            here = (signal_holds k).0 a.0;
             j = j;
-            least-j = b.1;
-            most-j = b.2;
+            least_j = b.1;
+            most_j = b.2;
             within = leb-true _ _ d.0;
-            again = (signal-holds (k + 8 * j)).0 d.1;
+            again = (signal_holds (k + 8 * j)).0 d.1;
           }
 
       back : Pair s p k → pair_at s p k ≡ true
       back h =
           let j = h.j in
-          let a : againAt s p k j ≡ true = rw (le-leb _ _ h.within) ((signal-holds (k + 8 * j)).1 h.again) in
-          rw ((signal-holds k).1 h.here) ((some-j-passes (againAt s p k)).1 (j, h.least-j, h.most-j, a))
+          let a : again_at s p k j ≡ true = rw (le-leb _ _ h.within) ((signal_holds (k + 8 * j)).1 h.again) in
+          rw ((signal_holds k).1 h.here) ((some_j_passes (again_at s p k)).1 (j, h.least_j, h.most_j, a))
 
   -- no pair begins past 18
-  pub pair-below : (k : ℕ) → Pair s p k → k < 19
-  pair-below k h = omega arith
+  pub pair_below : (k : ℕ) → Pair s p k → k < 19
+  pair_below k h = omega arith
 
   -- the least k that is worked out
-  pub least-k : (k : ℕ) → least 32 (pair_at s p) ≡ some k ↔ (Pair s p k × ((l : ℕ) → l < k → Pair s p l → ⊥))
-  least-k k = (there, back)
+  pub least_k : (k : ℕ) → least 32 (pair_at s p) ≡ some k ↔ (Pair s p k × ((l : ℕ) → l < k → Pair s p l → ⊥))
+  least_k k = (there, back)
     where
       there : least 32 (pair_at s p) ≡ some k → Pair s p k × ((l : ℕ) → l < k → Pair s p l → ⊥)
       there e =
-          let l = (least-some 32 (pair_at s p) k).0 e in
-          ((pair-holds k).0 l.passes, λ j h. denies (pair-holds j) (l.before j h))
+          let l = (least_some 32 (pair_at s p) k).0 e in
+          ((pair_holds k).0 l.passes, λ j h. denies (pair_holds j) (l.before j h))
 
       back : Pair s p k × ((l : ℕ) → l < k → Pair s p l → ⊥) → least 32 (pair_at s p) ≡ some k
       back h =
-          (least-some 32 (pair_at s p) k).1 (record {
-            below = omega (arith, pair-below k h.0);
-            passes = (pair-holds k).1 h.0;
-            before = λ j g. eq-false_of_not-eq-true (λ e. h.1 j g ((pair-holds j).0 e));
+          (least_some 32 (pair_at s p) k).1 (record {
+            below = omega (arith, pair_below k h.0);
+            passes = (pair_holds k).1 h.0;
+            before = λ j g. eq-false_of_not-eq-true (λ e. h.1 j g ((pair_holds j).0 e));
           })
 
-  pub no-k : least 32 (pair_at s p) ≡ none ↔ ((k : ℕ) → Pair s p k → ⊥)
-  no-k = (
-    λ e k h. denies (pair-holds k) (least-none 32 (pair_at s p) e k (omega (arith, pair-below k h))) h,
-    λ h. none-least 32 (pair_at s p) (λ k l. eq-false_of_not-eq-true (λ e. h k ((pair-holds k).0 e))),
+  pub no_k : least 32 (pair_at s p) ≡ none ↔ ((k : ℕ) → Pair s p k → ⊥)
+  no_k = (
+    λ e k h. denies (pair_holds k) (least_none 32 (pair_at s p) e k (omega (arith, pair_below k h))) h,
+    λ h. none_least 32 (pair_at s p) (λ k l. eq-false_of_not-eq-true (λ e. h k ((pair_holds k).0 e))),
   )
 
   -- what `standing` is worked out from
-  from-cond : (b : Bool) (o : Option ℕ) (w : Standing) → cond b (withPlace p o) none ≡ some w
+  from_cond : (b : Bool) (o : Option ℕ) (w : Standing) → cond b (with_place p o) none ≡ some w
       → (b ≡ true) × (o ≡ some w.k) × (w.place ≡ p)
-  from-cond false o w e = absurd (none-ne-some w e)
-  from-cond true none w e = absurd (none-ne-some w e)
-  from-cond true (some k) w e =
+  from_cond false o w e = absurd (none-ne-some w e)
+  from_cond true none w e = absurd (none-ne-some w e)
+  from_cond true (some k) w e =
       let q = some-injective _ _ e in
       (refl, ap (λ (x : Standing). some x.k) q, sym (ap (λ (x : Standing). x.place) q))
 
-  some-stands : (w : Standing) → standing s p ≡ some w → (w.place ≡ p) × Stands s p w.k
+  some_stands : (w : Standing) → standing s p ≡ some w → (w.place ≡ p) × Stands s p w.k
   unfolding standing
-  some-stands w e =
-      let a = from-cond (leb (p + 16384) (8 * length s) && basic s p) (least 32 (pair_at s p)) w e in
+  some_stands w e =
+      let a = from_cond (leb (p + 16384) (8 * length s) && basic s p) (least 32 (pair_at s p)) w e in
       let b = (and-eq-true_iff (leb (p + 16384) (8 * length s)) (basic s p)).0 a.0 in
-      let l = (least-k w.k).0 a.1 in
-      (a.2, record { room = leb-true _ _ b.0; basic = basic-holds.0 b.1; pair = l.0; least = l.1 })
+      let l = (least_k w.k).0 a.1 in
+      (a.2, record { room = leb-true _ _ b.0; basic = basic_holds.0 b.1; pair = l.0; least = l.1 })
 
   pub stands_here : (k : ℕ) → standing s p ≡ some (record { place = p; k = k }) ↔ Stands s p k
   unfolding standing
-  stands_here k = (λ e. (some-stands (record { place = p; k = k }) e).1, back)
+  stands_here k = (λ e. (some_stands (record { place = p; k = k }) e).1, back)
     where
       back : Stands s p k → standing s p ≡ some (record { place = p; k = k })
-      back h = rw (le-leb _ _ h.room, basic-holds.1 h.basic, (least-k k).1 (h.pair, h.least))
+      back h = rw (le-leb _ _ h.room, basic_holds.1 h.basic, (least_k k).1 (h.pair, h.least))
 
   none_here : ((k : ℕ) → Stands s p k → ⊥) → standing s p ≡ none
   none_here h = go (standing s p) refl
     where
       go : (o : Option Standing) → standing s p ≡ o → o ≡ none
       go none e = refl
-      go (some w) e = absurd (h w.k (some-stands w e).1)
+      go (some w) e = absurd (h w.k (some_stands w e).1)
 
   -- where some k is there, there is a least
-  pub some-k : (k : ℕ) → p + 16384 ≤ 8 * length s → Basic s p → Pair s p k → (l : ℕ) × Stands s p l
-  some-k k room basic pair = go (least 32 (pair_at s p)) refl
+  pub some_k : (k : ℕ) → p + 16384 ≤ 8 * length s → Basic s p → Pair s p k → (l : ℕ) × Stands s p l
+  some_k k room basic pair = go (least 32 (pair_at s p)) refl
     where
       go : (o : Option ℕ) → least 32 (pair_at s p) ≡ o → (l : ℕ) × Stands s p l
-      go none e = absurd (no-k.0 e k pair)
+      go none e = absurd (no_k.0 e k pair)
       go (some l) e =
-          let h = (least-k l).0 e in
+          let h = (least_k l).0 e in
           (l, record { room = room; basic = basic; pair = h.0; least = h.1 })
 
 module _ (s : List ℕ) where
   -- the place and the k that are worked out are those of the first place that stands
-  pub first-stands : (p k : ℕ) → firstStanding s ≡ some (record { place = p; k = k }) ↔ StandsFirst s p k
-  unfolding firstStanding
-  first-stands p k = (there, back)
+  pub first_stands : (p k : ℕ) → first_standing s ≡ some (record { place = p; k = k }) ↔ StandsFirst s p k
+  unfolding first_standing
+  first_stands p k = (there, back)
     where
-      there : firstStanding s ≡ some (record { place = p; k = k }) → StandsFirst s p k
+      there : first_standing s ≡ some (record { place = p; k = k }) → StandsFirst s p k
       there e =
           let w = first_some (8 * length s) (standing s) (record { place = p; k = k }) e in
-          let a = some-stands s w.0 (record { place = p; k = k }) w.2 in
+          let a = some_stands s w.0 (record { place = p; k = k }) w.2 in
           record {
             stands = rw a.0 a.1;
             before = λ q l h g. none-ne-some _ (sym (w.3 q (omega arith)) ∙ (stands_here s q l).1 g);
           }
 
-      back : StandsFirst s p k → firstStanding s ≡ some (record { place = p; k = k })
+      back : StandsFirst s p k → first_standing s ≡ some (record { place = p; k = k })
       back h =
           some_first (8 * length s) p (standing s) (record { place = p; k = k })
           (omega (arith, h.stands.room))
@@ -190,72 +190,72 @@ module _ (s : List ℕ) where
           ((stands_here s p k).1 h.stands)
 
   -- and there is none exactly if no place stands
-  pub none-stands : firstStanding s ≡ none ↔ ((p k : ℕ) → Stands s p k → ⊥)
-  unfolding firstStanding
-  none-stands = (there, back)
+  pub none_stands : first_standing s ≡ none ↔ ((p k : ℕ) → Stands s p k → ⊥)
+  unfolding first_standing
+  none_stands = (there, back)
     where
-      there : firstStanding s ≡ none → (p k : ℕ) → Stands s p k → ⊥
+      there : first_standing s ≡ none → (p k : ℕ) → Stands s p k → ⊥
       there e p k h =
-          none-ne-some _ (sym (first-none (8 * length s) (standing s) e p (omega (arith, h.room))) ∙ (stands_here s p k).1 h)
+          none-ne-some _ (sym (first_none (8 * length s) (standing s) e p (omega (arith, h.room))) ∙ (stands_here s p k).1 h)
 
-      back : ((p k : ℕ) → Stands s p k → ⊥) → firstStanding s ≡ none
+      back : ((p k : ℕ) → Stands s p k → ⊥) → first_standing s ≡ none
       back h = none_first (8 * length s) (standing s) (λ p l. none_here s p (h p))
 
   -- so it is one place and one k
-  pub stands-single : (p q k l : ℕ) → StandsFirst s p k → StandsFirst s q l → (p ≡ q) × (k ≡ l)
-  stands-single p q k l h g =
-      let e = some-injective _ _ (sym ((first-stands p k).1 h) ∙ (first-stands q l).1 g) in
+  pub stands_single : (p q k l : ℕ) → StandsFirst s p k → StandsFirst s q l → (p ≡ q) × (k ≡ l)
+  stands_single p q k l h g =
+      let e = some-injective _ _ (sym ((first_stands p k).1 h) ∙ (first_stands q l).1 g) in
       (ap (λ (x : Standing). x.place) e, ap (λ (x : Standing). x.k) e)
 
   -- no place stands exactly if none has room, basic alignment and some k, the least or not
   pub none_at_all : ((p k : ℕ) → Stands s p k → ⊥)
       ↔ ((p k : ℕ) → p + 16384 ≤ 8 * length s → Basic s p → Pair s p k → ⊥)
   none_at_all = (
-    λ n p k room basic pair. let w = some-k s p k room basic pair in n p w.0 w.1,
+    λ n p k room basic pair. let w = some_k s p k room basic pair in n p w.0 w.1,
     λ n p k h. n p k h.room h.basic h.pair,
   )
 
   -- the first place with room and basic alignment, and that there is none
-  with-room : (p : ℕ) → basicWithRoom s p ≡ true ↔ ((p + 16384 ≤ 8 * length s) × Basic s p)
-  with-room p = (
+  with_room : (p : ℕ) → basic_with_room s p ≡ true ↔ ((p + 16384 ≤ 8 * length s) × Basic s p)
+  with_room p = (
     λ e.
         let a = (and-eq-true_iff (leb (p + 16384) (8 * length s)) (basic s p)).0 e in
-        (leb-true _ _ a.0, (basic-holds s p).0 a.1),
-    λ h. rw (le-leb _ _ h.0, (basic-holds s p).1 h.1),
+        (leb-true _ _ a.0, (basic_holds s p).0 a.1),
+    λ h. rw (le-leb _ _ h.0, (basic_holds s p).1 h.1),
   )
 
-  pub basic-first : (p : ℕ) → firstBasic s ≡ some p ↔ BasicFirst s p
-  unfolding firstBasic
-  basic-first p = (there, back)
+  pub basic_first : (p : ℕ) → first_basic s ≡ some p ↔ BasicFirst s p
+  unfolding first_basic
+  basic_first p = (there, back)
     where
-      there : firstBasic s ≡ some p → BasicFirst s p
+      there : first_basic s ≡ some p → BasicFirst s p
       there e =
-          let l = (least-some (8 * length s) (basicWithRoom s) p).0 e in
-          let h = (with-room p).0 l.passes in
+          let l = (least_some (8 * length s) (basic_with_room s) p).0 e in
+          let h = (with_room p).0 l.passes in
           record {
             room = h.0;
             basic = h.1;
-            before = λ q g b. denies (with-room q) (l.before q g) (omega (arith, h.0), b);
+            before = λ q g b. denies (with_room q) (l.before q g) (omega (arith, h.0), b);
           }
 
-      back : BasicFirst s p → firstBasic s ≡ some p
+      back : BasicFirst s p → first_basic s ≡ some p
       back h =
-          (least-some (8 * length s) (basicWithRoom s) p).1 (record {
+          (least_some (8 * length s) (basic_with_room s) p).1 (record {
             below = omega (arith, h.room);
-            passes = (with-room p).1 (h.room, h.basic);
-            before = λ q g. eq-false_of_not-eq-true (λ e. h.before q g ((with-room q).0 e).1);
+            passes = (with_room p).1 (h.room, h.basic);
+            before = λ q g. eq-false_of_not-eq-true (λ e. h.before q g ((with_room q).0 e).1);
           })
 
-  pub none-basic : firstBasic s ≡ none ↔ ((p : ℕ) → p + 16384 ≤ 8 * length s → Basic s p → ⊥)
-  unfolding firstBasic
-  none-basic = (
-    λ e p room b. denies (with-room p) (least-none (8 * length s) (basicWithRoom s) e p (omega arith)) (room, b),
-    λ h. none-least (8 * length s) (basicWithRoom s) (λ p l. eq-false_of_not-eq-true (λ e. let w = (with-room p).0 e in h p w.0 w.1)),
+  pub none_basic : first_basic s ≡ none ↔ ((p : ℕ) → p + 16384 ≤ 8 * length s → Basic s p → ⊥)
+  unfolding first_basic
+  none_basic = (
+    λ e p room b. denies (with_room p) (least_none (8 * length s) (basic_with_room s) e p (omega arith)) (room, b),
+    λ h. none_least (8 * length s) (basic_with_room s) (λ p l. eq-false_of_not-eq-true (λ e. let w = (with_room p).0 e in h p w.0 w.1)),
   )
 
   -- where none has basic alignment none stands
-  pub basic-none : firstBasic s ≡ none → firstStanding s ≡ none
-  basic-none e = none-stands.1 (λ p k h. none-basic.0 e p h.room h.basic)
+  pub basic_none : first_basic s ≡ none → first_standing s ≡ none
+  basic_none e = none_stands.1 (λ p k h. none_basic.0 e p h.room h.basic)
 
 -- what the search answers, case by case
 pub found_at : (o : Option Standing) (b : Option ℕ) (p k : ℕ) → found o b ≡ At p k
@@ -264,10 +264,10 @@ found_at (some w) b p k e = ap₂ (λ x y. some (record { place = x; k = y })) (
 found_at none (some q) p k e = let z : ◌≡◌ {A = ℕ} 0 1 = cc in absurd (omega arith)
 found_at none none p k e = let z : ◌≡◌ {A = ℕ} 0 1 = cc in absurd (omega arith)
 
-pub found-basic : (o : Option Standing) (b : Option ℕ) (p : ℕ) → found o b ≡ BasicAt p → (o ≡ none) × (b ≡ some p)
-found-basic (some w) b p e = let z : ◌≡◌ {A = ℕ} 0 1 = cc in absurd (omega arith)
-found-basic none (some q) p e = (refl, ap some (cc))
-found-basic none none p e = let z : ◌≡◌ {A = ℕ} 0 1 = cc in absurd (omega arith)
+pub found_basic : (o : Option Standing) (b : Option ℕ) (p : ℕ) → found o b ≡ BasicAt p → (o ≡ none) × (b ≡ some p)
+found_basic (some w) b p e = let z : ◌≡◌ {A = ℕ} 0 1 = cc in absurd (omega arith)
+found_basic none (some q) p e = (refl, ap some (cc))
+found_basic none none p e = let z : ◌≡◌ {A = ℕ} 0 1 = cc in absurd (omega arith)
 
 pub found_nothing : (o : Option Standing) (b : Option ℕ) → found o b ≡ Nothing → (o ≡ none) × (b ≡ none)
 found_nothing (some w) b e = let z : ◌≡◌ {A = ℕ} 0 1 = cc in absurd (omega arith)
@@ -275,38 +275,38 @@ found_nothing none (some q) e = let z : ◌≡◌ {A = ℕ} 0 1 = cc in absurd (
 found_nothing none none e = (refl, refl)
 
 -- that is, the first place that stands, the first with basic alignment where none does, or nothing where none has it
-pub finds-at : (s : List ℕ) (p k : ℕ) → foundIn s ≡ At p k ↔ StandsFirst s p k
-finds-at s p k = (
-  λ e. (first-stands s p k).0 (found_at (firstStanding s) (firstBasic s) p k e),
-  λ h. ap (λ o. found o (firstBasic s)) ((first-stands s p k).1 h),
+pub finds_at : (s : List ℕ) (p k : ℕ) → found_in s ≡ At p k ↔ StandsFirst s p k
+finds_at s p k = (
+  λ e. (first_stands s p k).0 (found_at (first_standing s) (first_basic s) p k e),
+  λ h. ap (λ o. found o (first_basic s)) ((first_stands s p k).1 h),
 )
 
-pub finds-basic : (s : List ℕ) (p : ℕ) → foundIn s ≡ BasicAt p ↔ BasicFirst s p × ((q k : ℕ) → Stands s q k → ⊥)
-finds-basic s p = (
+pub finds_basic : (s : List ℕ) (p : ℕ) → found_in s ≡ BasicAt p ↔ BasicFirst s p × ((q k : ℕ) → Stands s q k → ⊥)
+finds_basic s p = (
   λ e.
-      let f = found-basic (firstStanding s) (firstBasic s) p e in
-      ((basic-first s p).0 f.1, (none-stands s).0 f.0),
-  λ h. ap₂ found ((none-stands s).1 h.1) ((basic-first s p).1 h.0),
+      let f = found_basic (first_standing s) (first_basic s) p e in
+      ((basic_first s p).0 f.1, (none_stands s).0 f.0),
+  λ h. ap₂ found ((none_stands s).1 h.1) ((basic_first s p).1 h.0),
 )
 
-pub finds-nothing : (s : List ℕ)
-    → foundIn s ≡ Nothing ↔ ((p : ℕ) → p + 16384 ≤ 8 * length s → Basic s p → ⊥)
-finds-nothing s = (
-  λ e. (none-basic s).0 (found_nothing (firstStanding s) (firstBasic s) e).1,
-  λ h. let e = (none-basic s).1 h in ap₂ found (basic-none s e) e,
+pub finds_nothing : (s : List ℕ)
+    → found_in s ≡ Nothing ↔ ((p : ℕ) → p + 16384 ≤ 8 * length s → Basic s p → ⊥)
+finds_nothing s = (
+  λ e. (none_basic s).0 (found_nothing (first_standing s) (first_basic s) e).1,
+  λ h. let e = (none_basic s).1 h in ap₂ found (basic_none s e) e,
 )
 
 -- the bits from the place on are there, and k is at most 18
-pub first-within : (s : List ℕ) (p k : ℕ) → firstStanding s ≡ some (record {
+pub first_within : (s : List ℕ) (p k : ℕ) → first_standing s ≡ some (record {
   place =
       p;
   k = k;
 }) → (p + 16384 ≤ 8 * length s) × (k < 19)
-first-within s p k e =
-    let h = ((first-stands s p k).0 e).stands in
-    (h.room, pair-below s p k h.pair)
+first_within s p k e =
+    let h = ((first_stands s p k).0 e).stands in
+    (h.room, pair_below s p k h.pair)
 
 -- a place that the search has to look at has basic alignment
-pub wanted-basic : (s : List ℕ) (known : Bool) (q : ℕ) → Wanted s known q → Basic s q
-wanted-basic s known q (inl w) = w.1.basic
-wanted-basic s known q (inr w) = w.1
+pub wanted_basic : (s : List ℕ) (known : Bool) (q : ℕ) → Wanted s known q → Basic s q
+wanted_basic s known q (inl w) = w.1.basic
+wanted_basic s known q (inr w) = w.1

@@ -10,7 +10,7 @@ use Rattle.align.specs.declared.Why.TheVariants.{NoneFails, FirstWord, Bit2, Sec
 -- the word in the frame at q is wrong, and b is the place of its first wrong bit
 pub record FirstWrong (s : List ℕ) (q b : ℕ) : Type 0 where
   pub i : ℕ
-  pub of-seven : i < 7
+  pub of_seven : i < 7
   pub place : b ≡ q + 1 + i
   pub before : (j : ℕ) → j < i → bit_at s (q + 1 + j) ≡ get_or alignment j 0
   pub wrong : bit_at s (q + 1 + i) ≢ get_or alignment i 0

@@ -7,8 +7,8 @@ use Rattle.align.specs.Place.{mark}
 -- basic alignment: the word in the frame at p, a 1 in bit 2 of the next frame, the word again in the one after
 pub record Basic (s : List ℕ) (p : ℕ) : Type 0 where
   pub word : field s (p + 1) 7 ≡ 27
-  pub bit-2 : bit_at s (p + 257) ≡ 1
-  pub word-again : field s (p + 513) 7 ≡ 27
+  pub bit_2 : bit_at s (p + 257) ≡ 1
+  pub word_again : field s (p + 513) 7 ≡ 27
 
 -- the first place with basic alignment and 16,384 bits from it to the end of the image; places before it have these too
 pub record BasicFirst (s : List ℕ) (p : ℕ) : Type 0 where
@@ -24,8 +24,8 @@ Signal s p k = (i : ℕ) → i < 6 → mark s p (k + i) ≡ get_or signal i 0
 pub record Pair (s : List ℕ) (p k : ℕ) : Type 0 where
   pub here : Signal s p k
   pub j : ℕ
-  pub least-j : 1 ≤ j
-  pub most-j : j ≤ 3
+  pub least_j : 1 ≤ j
+  pub most_j : j ≤ 3
   pub within : k + 8 * j + 5 ≤ 31
   pub again : Signal s p (k + 8 * j)
 

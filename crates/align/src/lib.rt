@@ -3,9 +3,9 @@ pub mod ask;
 
 ghost use Rattle.std.specs.Prelude.{◌≡◌, ◌+◌, ◌-◌, ◌*◌, ◌^◌, ◌<◌, ◌≤◌, min, ltb, length};
 ghost use Rattle.std.proofs.Math.Option.{none};
-ghost use Rattle.base.specs.Choice.{whenSo};
+ghost use Rattle.base.specs.Choice.{when_so};
 ghost use Rattle.line.specs.Bit.{Room};
-ghost use Rattle.align.specs.Place.{basic, signalAt, againAt, pair_at, found, foundIn};
+ghost use Rattle.align.specs.Place.{basic, signal_at, again_at, pair_at, found, found_in};
 ghost use Rattle.align.specs.Stands.{Basic};
 ghost use Rattle.align.specs.Window.{Holds, NoneFrom, Marks, SignalIn, Signals, Pairs, Paired, Wanted};
 
@@ -47,7 +47,7 @@ fn basic(s: &[u8], p: usize) -> bool
 // the signal at k, left at the first wrong mark: 0, 0, 1, 0, 1, 1 are the bits of the constant from the lowest on
 fn signal(s: &[u8], p: usize, k: usize) -> bool
     requires { Room s.now p 16384 × (k ≤ 26) }
-    ensures { result ≡ signalAt s.now p k }
+    ensures { result ≡ signal_at s.now p k }
 {
     for i in 0..6 {
         if line::bit(s, p + 256 + 512 * (k + i)) != (0b110100 >> i) & 1 {
@@ -60,7 +60,7 @@ fn signal(s: &[u8], p: usize, k: usize) -> bool
 // the signal once more, 8j later and within the 32 marks
 fn again(s: &[u8], p: usize, k: usize, j: usize) -> bool
     requires { Room s.now p 16384 × (k ≤ 18) × (j ≤ 3) }
-    ensures { result ≡ againAt s.now p k j }
+    ensures { result ≡ again_at s.now p k j }
 {
     k + 8 * j + 5 <= 31 && signal(s, p, k + 8 * j)
 }
@@ -239,7 +239,7 @@ fn lesser(a: usize, b: usize) -> usize
 
 // what is answered where no place stands: the first with basic alignment, if it is before the end
 fn unpaired(first: usize, bits: usize) -> Found
-    ensures { result ≡ found none (whenSo (ltb first bits) first) }
+    ensures { result ≡ found none (when_so (ltb first bits) first) }
 {
     if first < bits {
         return Found::BasicAt { place: first };
@@ -250,7 +250,7 @@ fn unpaired(first: usize, bits: usize) -> Found
 // the first place that stands, with its least k, or else the first with basic alignment, which is noted on the way
 pub fn find(s: &[u8]) -> Found
     requires { length s.now < 2 ^ 60 }
-    ensures { result ≡ foundIn s.now }
+    ensures { result ≡ found_in s.now }
 {
     let bits = 8 * s.len();
     let end = line::octets_with_room(s, 2048);

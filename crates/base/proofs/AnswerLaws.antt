@@ -7,23 +7,23 @@ use mathlib.Mathlib.Data.Bool.Basic.{or-eq-false-eq-eq-false-and-eq-false}
 use borrow.Author.Tests.{eq-eqb, eqb-true, eqb-false, not-true}
 use lib.Dec.{eqb}
 use Rattle.base.specs.Choice.{if◌then◌else◌}
-use Rattle.base.specs.Answer.{accepted, Refusal, first_of, among}
+use Rattle.base.specs.Answer.{accepted, Refusal, first_number, among}
 
-pub accepted-so {ℓ} : {A : Type ℓ} (n : ℕ) (a b : A) → n ≡ 0 → accepted n a b ≡ a
-accepted-so n a b e = ap (λ k. accepted k a b) e
+pub accepted_so {ℓ} : {A : Type ℓ} (n : ℕ) (a b : A) → n ≡ 0 → accepted n a b ≡ a
+accepted_so n a b e = ap (λ k. accepted k a b) e
 
-pub accepted-not {ℓ} : {A : Type ℓ} (n : ℕ) (a b : A) → (n ≡ 0 → ⊥) → accepted n a b ≡ b
-accepted-not zero a b h = absurd (h refl)
-accepted-not (suc n) a b h = refl
+pub accepted_not {ℓ} : {A : Type ℓ} (n : ℕ) (a b : A) → (n ≡ 0 → ⊥) → accepted n a b ≡ b
+accepted_not zero a b h = absurd (h refl)
+accepted_not (suc n) a b h = refl
 
 -- what holds of both ways holds of either
-pub accepted-both {ℓ} : {A : Type ℓ} (P : A → Type 0) (n : ℕ) {a b : A} → P a → P b → P (accepted n a b)
-accepted-both P zero h k = h
-accepted-both P (suc n) h k = k
+pub accepted_both {ℓ} : {A : Type ℓ} (P : A → Type 0) (n : ℕ) {a b : A} → P a → P b → P (accepted n a b)
+accepted_both P zero h k = h
+accepted_both P (suc n) h k = k
 
 -- two values of calls with one number
-pub accepted-single {ℓ} : {A : Type ℓ} (m n : ℕ) (a b x y : A) → m ≡ n → x ≡ accepted m a b → y ≡ accepted n a b → x ≡ y
-accepted-single m n a b x y e p q = p ∙ ap (λ k. accepted k a b) e ∙ sym q
+pub accepted_single {ℓ} : {A : Type ℓ} (m n : ℕ) (a b x y : A) → m ≡ n → x ≡ accepted m a b → y ≡ accepted n a b → x ≡ y
+accepted_single m n a b x y e p q = p ∙ ap (λ k. accepted k a b) e ∙ sym q
 
 -- An entry's refusals: the numbers of the list are none of them 0, and no two are equal.
 
@@ -48,49 +48,49 @@ or_right true b e = refl
 or_right false b e = e
 
 -- the number is one of the list's, or 0
-pub first-listed : (rs : List Refusal) → among (first_of rs) (0 ∷ numbers rs) ≡ true
-first-listed [] = refl
-first-listed (r ∷ rs) = go r.applies (first-listed rs)
+pub first_listed : (rs : List Refusal) → among (first_number rs) (0 ∷ numbers rs) ≡ true
+first_listed [] = refl
+first_listed (r ∷ rs) = go r.applies (first_listed rs)
   where
     skip : (a b c : Bool) → a || c ≡ true → a || (b || c) ≡ true
     skip true b c e = refl
     skip false true c e = refl
     skip false false c e = e
 
-    go : (t : Bool) → among (first_of rs) (0 ∷ numbers rs) ≡ true
-        → among (if t then r.number else first_of rs) (0 ∷ r.number ∷ numbers rs) ≡ true
+    go : (t : Bool) → among (first_number rs) (0 ∷ numbers rs) ≡ true
+        → among (if t then r.number else first_number rs) (0 ∷ r.number ∷ numbers rs) ≡ true
     go true e =
         or_right (eqb r.number 0) (eqb r.number r.number || among r.number (numbers rs))
         (rw (same r.number))
-    go false e = skip (eqb (first_of rs) 0) (eqb (first_of rs) r.number) (among (first_of rs) (numbers rs)) e
+    go false e = skip (eqb (first_number rs) 0) (eqb (first_number rs) r.number) (among (first_number rs) (numbers rs)) e
 
 -- of two lists in a row the first comes first: its number, where that is not 0, else that of the second
 module _ (qs : List Refusal) where
-  first-joined : (rs : List Refusal) → among 0 (numbers rs) ≡ false
-      → first_of (rs ++ qs) ≡ accepted (first_of rs) (first_of qs) (first_of rs)
-  first-joined [] d = refl
-  first-joined (r ∷ rs) d =
+  first_joined : (rs : List Refusal) → among 0 (numbers rs) ≡ false
+      → first_number (rs ++ qs) ≡ accepted (first_number rs) (first_number qs) (first_number rs)
+  first_joined [] d = refl
+  first_joined (r ∷ rs) d =
       let e = (or-eq-false-eq-eq-false-and-eq-false (eqb 0 r.number) (among 0 (numbers rs))).0 d in
-      go r.applies (λ z. eqb-false 0 r.number e.0 (sym z)) (first-joined rs e.1)
+      go r.applies (λ z. eqb-false 0 r.number e.0 (sym z)) (first_joined rs e.1)
     where
-      go : (t : Bool) → (r.number ≡ 0 → ⊥) → first_of (rs ++ qs) ≡ accepted (first_of rs) (first_of qs) (first_of rs)
-          → (if t then r.number else first_of (rs ++ qs))
-          ≡ accepted (if t then r.number else first_of rs) (first_of qs) (if t then r.number else first_of rs)
-      go true n later = sym (accepted-not r.number (first_of qs) r.number n)
+      go : (t : Bool) → (r.number ≡ 0 → ⊥) → first_number (rs ++ qs) ≡ accepted (first_number rs) (first_number qs) (first_number rs)
+          → (if t then r.number else first_number (rs ++ qs))
+          ≡ accepted (if t then r.number else first_number rs) (first_number qs) (if t then r.number else first_number rs)
+      go true n later = sym (accepted_not r.number (first_number qs) r.number n)
       go false n later = later
 
   module _ (rs : List Refusal) (d : among 0 (numbers rs) ≡ false) where
-    pub joined-first : (n : ℕ) → n ≡ first_of rs → (n ≡ 0 → ⊥) → first_of (rs ++ qs) ≡ n
-    joined-first n e h =
-        first-joined rs d ∙ accepted-not (first_of rs) (first_of qs) (first_of rs) (λ z. h (e ∙ z)) ∙ sym e
+    pub joined_first : (n : ℕ) → n ≡ first_number rs → (n ≡ 0 → ⊥) → first_number (rs ++ qs) ≡ n
+    joined_first n e h =
+        first_joined rs d ∙ accepted_not (first_number rs) (first_number qs) (first_number rs) (λ z. h (e ∙ z)) ∙ sym e
 
-    pub joined-then : first_of rs ≡ 0 → first_of (rs ++ qs) ≡ first_of qs
-    joined-then z = first-joined rs d ∙ accepted-so (first_of rs) (first_of qs) (first_of rs) z
+    pub joined_then : first_number rs ≡ 0 → first_number (rs ++ qs) ≡ first_number qs
+    joined_then z = first_joined rs d ∙ accepted_so (first_number rs) (first_number qs) (first_number rs) z
 
 -- it tells which
-pub first-tells : (rs : List Refusal) → distinct (0 ∷ numbers rs) ≡ true → Tells (first_of rs) rs
-first-tells [] d = tt
-first-tells (r ∷ rs) d = go r.applies refl (first-tells rs)
+pub first_tells : (rs : List Refusal) → distinct (0 ∷ numbers rs) ≡ true → Tells (first_number rs) rs
+first_tells [] d = tt
+first_tells (r ∷ rs) d = go r.applies refl (first_tells rs)
   where
     both : (among 0 (r.number ∷ numbers rs) ≡ false) × (among r.number (numbers rs) ≡ false) × (distinct (numbers rs) ≡ true)
     both =
@@ -125,13 +125,13 @@ first-tells (r ∷ rs) d = go r.applies refl (first-tells rs)
         let z = or_no (eqb 0 r.number) (among 0 (numbers rs)) both.0 in
         rw (swapped 0 r.number z.0, both.1)
 
-    go : (t : Bool) → r.applies ≡ t → (distinct (0 ∷ numbers rs) ≡ true → Tells (first_of rs) rs)
-        → Tells (if t then r.number else first_of rs) (r ∷ rs)
+    go : (t : Bool) → r.applies ≡ t → (distinct (0 ∷ numbers rs) ≡ true → Tells (first_number rs) rs)
+        → Tells (if t then r.number else first_number rs) (r ∷ rs)
     go true e later = rw (same r.number) e
-    go false e later = rw (other (first_of rs) r.number (0 ∷ numbers rs) (first-listed rs) fresh) (e, later rest)
+    go false e later = rw (other (first_number rs) r.number (0 ∷ numbers rs) (first_listed rs) fresh) (e, later rest)
 
 -- and what it tells gives it
-pub tells_first : (n : ℕ) (rs : List Refusal) → among n (0 ∷ numbers rs) ≡ true → Tells n rs → first_of rs ≡ n
+pub tells_first : (n : ℕ) (rs : List Refusal) → among n (0 ∷ numbers rs) ≡ true → Tells n rs → first_number rs ≡ n
 tells_first n [] h t = go (eqb n 0) refl h
   where
     go : (b : Bool) → eqb n 0 ≡ b → b || false ≡ true → 0 ≡ n
@@ -144,7 +144,7 @@ tells_first n (r ∷ rs) h t = go (eqb n r.number) refl t (tells_first n rs)
     drop false b c e k = rw e at k
 
     go : (b : Bool) → eqb n r.number ≡ b → cond b (r.applies ≡ true) ((r.applies ≡ false) × Tells n rs)
-        → (among n (0 ∷ numbers rs) ≡ true → Tells n rs → first_of rs ≡ n)
-        → (if r.applies then r.number else first_of rs) ≡ n
+        → (among n (0 ∷ numbers rs) ≡ true → Tells n rs → first_number rs ≡ n)
+        → (if r.applies then r.number else first_number rs) ≡ n
     go true e k later = rw k (sym (eqb-true n r.number e))
     go false e k later = rw k.0 (later (drop (eqb n 0) (eqb n r.number) (among n (numbers rs)) e h) k.1)

@@ -5,9 +5,9 @@ use mathlib.Core.Logic.{◌↔◌}
 use Rattle.base.specs.Choice.{if◌then◌else◌}
 
 -- what holds of both ways holds of the choice
-pub if-both {ℓ} : {A : Type ℓ} (P : A → Type 0) (t : Bool) {x y : A} → P x → P y → P (if t then x else y)
-if-both P true h k = h
-if-both P false h k = k
+pub if_both {ℓ} : {A : Type ℓ} (P : A → Type 0) (t : Bool) {x y : A} → P x → P y → P (if t then x else y)
+if_both P true h k = h
+if_both P false h k = k
 
 -- a test that says when P holds, and fails
 pub denies : {b : Bool} {P : Type 0} → (b ≡ true ↔ P) → b ≡ false → P → ⊥

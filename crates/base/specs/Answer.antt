@@ -18,9 +18,9 @@ abbrev pub ◌when◌ : ℕ → Bool → Refusal
 n when t = record { number = n; applies = t }
 
 -- the number of the first that applies, 0 where none does
-abbrev pub first_of : List Refusal → ℕ
-first_of [] = 0
-first_of (r ∷ rs) = if r.applies then r.number else first_of rs
+abbrev pub first_number : List Refusal → ℕ
+first_number [] = 0
+first_number (r ∷ rs) = if r.applies then r.number else first_number rs
 
 -- n is one of these
 abbrev pub among : ℕ → List ℕ → Bool

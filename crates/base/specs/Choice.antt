@@ -12,11 +12,11 @@ or_else (some a) b = some a
 or_else none b = b
 
 -- what is there, else b
-abbrev pub valueOr {ℓ} : {A : Type ℓ} → Option A → A → A
-valueOr (some a) b = a
-valueOr none b = b
+abbrev pub value_or {ℓ} : {A : Type ℓ} → Option A → A → A
+value_or (some a) b = a
+value_or none b = b
 
 -- a where the test holds
-abbrev pub whenSo {ℓ} : {A : Type ℓ} → Bool → A → Option A
-whenSo true a = some a
-whenSo false a = none
+abbrev pub when_so {ℓ} : {A : Type ℓ} → Bool → A → Option A
+when_so true a = some a
+when_so false a = none

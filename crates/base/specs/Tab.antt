@@ -1,16 +1,16 @@
 -- Lists, counts and searches given by an index: what the other definitions are said with.
 use Rattle.std.specs.Prelude.{ℕ, zero, suc, ◌+◌, Bool, true, ◌&&◌, List, [], ◌∷◌}
 use Rattle.std.proofs.Math.Option.{Option, none}
-use Rattle.base.specs.Choice.{if◌then◌else◌, or_else, whenSo}
+use Rattle.base.specs.Choice.{if◌then◌else◌, or_else, when_so}
 
 -- f i, f (i + 1), .. : n of them
-unfoldable pub tabFrom {ℓ} : {A : Type ℓ} → ℕ → ℕ → (ℕ → A) → List A
-tabFrom i zero f = []
-tabFrom i (suc n) f = f i ∷ tabFrom (suc i) n f
+unfoldable pub tab_from {ℓ} : {A : Type ℓ} → ℕ → ℕ → (ℕ → A) → List A
+tab_from i zero f = []
+tab_from i (suc n) f = f i ∷ tab_from (suc i) n f
 
 -- f 0 to f (n - 1)
 abbrev pub tab {ℓ} : {A : Type ℓ} → ℕ → (ℕ → A) → List A
-tab n f = tabFrom 0 n f
+tab n f = tab_from 0 n f
 
 -- the sum of f 0 to f (n - 1)
 unfoldable pub sum : ℕ → (ℕ → ℕ) → ℕ
@@ -33,4 +33,4 @@ first (suc n) f = or_else (first n f) (f n)
 
 -- the least i below n that passes the test
 abbrev pub least : ℕ → (ℕ → Bool) → Option ℕ
-least n t = first n (λ i. whenSo (t i) i)
+least n t = first n (λ i. when_so (t i) i)

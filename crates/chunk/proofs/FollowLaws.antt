@@ -9,22 +9,22 @@ use lib.Dec.{eqb}
 use lib.ListN.{length, drop, length-drop}
 use Rattle.align.specs.Place.{start_of}
 use Rattle.base.specs.Tab.{first}
-use Rattle.base.proofs.ChoiceLaws.{if-both}
-use Rattle.measure.specs.Reading.{whole, lossFrom, lostAt, usedOf, payloadOf, slot0Of, wordErrors, wordBits, compared, disagreeing, farEnd}
+use Rattle.base.proofs.ChoiceLaws.{if_both}
+use Rattle.measure.specs.Reading.{whole, loss_from, lost_at, used_of, payload_of, slot0_of, word_errors, word_bits, compared, disagreeing, far_end}
 use Rattle.measure.specs.declared.Tracked.{Tracked}
-use Rattle.measure.proofs.FromLaws.{from-late, from-among, used-upto}
-use Rattle.growth.specs.Growth.{Grown, keptOf, goneOf, laterBy, read_on, readFrom}
+use Rattle.measure.proofs.FromLaws.{from_late, from_among, used_upto}
+use Rattle.growth.specs.Growth.{Grown, kept_of, gone_of, later_by, read_on, read_from}
 use Rattle.growth.specs.Small.{Small}
 use Rattle.growth.specs.declared.Line.{Line}
-use Rattle.growth.proofs.Counts.{Leaves, payload-leaves, slot0-leaves, words-few, bits-few}
-use Rattle.chunk.specs.Look.{Few, lostBy, goneBy, gaining, still, Gains, told, Looks, Tracks}
+use Rattle.growth.proofs.Counts.{Leaves, payload_leaves, slot0_leaves, words_few, bits_few}
+use Rattle.chunk.specs.Look.{Few, lost_by, gone_by, gaining, still, Gains, told, Looks, Tracks}
 use Rattle.chunk.specs.declared.Seen.{Seen}
 use Rattle.chunk.specs.declared.Gain.{Gain}
-use Rattle.chunk.proofs.GainLaws.{noGain, gains-none, gainOf, gains-of}
+use Rattle.chunk.proofs.GainLaws.{no_gain, gains_none, gain_of, gains_of}
 
 -- more room
-pub small-more : (c : Line) (m n : ℕ) → m ≤ n → Small c m → Small c n
-small-more c m n l h =
+pub small_more : (c : Line) (m n : ℕ) → m ≤ n → Small c m → Small c n
+small_more c m n l h =
     record {
       before = omega (arith, h.before);
       start = omega (arith, h.start);
@@ -36,8 +36,8 @@ small-more c m n l h =
       wordbits = omega (arith, h.wordbits);
     }
 
-pub few-more : (r : Gain) (m n : ℕ) → m ≤ n → Few r m → Few r n
-few-more r m n l h =
+pub few_more : (r : Gain) (m n : ℕ) → m ≤ n → Few r m → Few r n
+few_more r m n l h =
     record {
       multiframes = omega (arith, h.multiframes);
       words = omega (arith, h.words);
@@ -46,82 +46,82 @@ few-more r m n l h =
       wordbits = omega (arith, h.wordbits);
     }
 
-pub looks-as : {x y : Grown} {s : List ℕ} {r : Seen} → x ≡ y → Looks y s r → Looks x s r
-looks-as e l = rw e l
+pub looks_as : {x y : Grown} {s : List ℕ} {r : Seen} → x ≡ y → Looks y s r → Looks x s r
+looks_as e l = rw e l
 
 -- The loss, and what is let go. A frame of loss is never 0.
 
 abbrev Late : Option ℕ → Type 0
 Late l = (k : ℕ) → l ≡ some k → 4 ≤ k
 
-lost-is : (u f : ℕ) (l : Option ℕ) → Late l → f ≡ lostAt l → lostAt (laterBy (16 * u) l) ≡ lostBy u f
-lost-is u f none h e = rw (eq-eqb f 0 e)
-lost-is u f (some k) h e = rw (ne_eqb f 0 (λ z. omega (arith, h k refl))) (ap (λ x. 16 * u + x) (sym e))
+lost_is : (u f : ℕ) (l : Option ℕ) → Late l → f ≡ lost_at l → lost_at (later_by (16 * u) l) ≡ lost_by u f
+lost_is u f none h e = rw (eq-eqb f 0 e)
+lost_is u f (some k) h e = rw (ne_eqb f 0 (λ z. omega (arith, h k refl))) (ap (λ x. 16 * u + x) (sym e))
 
-gone-is : (n g f : ℕ) (l : Option ℕ) → Late l → f ≡ lostAt l → goneOf n g l ≡ goneBy n g f
-gone-is n g f none h e = rw (eq-eqb f 0 e)
-gone-is n g f (some k) h e = rw (ne_eqb f 0 (λ z. omega (arith, h k refl)))
+gone_is : (n g f : ℕ) (l : Option ℕ) → Late l → f ≡ lost_at l → gone_of n g l ≡ gone_by n g f
+gone_is n g f none h e = rw (eq-eqb f 0 e)
+gone_is n g f (some k) h e = rw (ne_eqb f 0 (λ z. omega (arith, h k refl)))
 
-pub gone-within : (n g f x : ℕ) → 512 * g ≤ n → x ≡ goneBy n g f → x ≤ n
-gone-within n g f x h e = rw e (if-both (λ y. y ≤ n) (eqb f 0) (omega arith) (omega arith))
+pub gone_within : (n g f x : ℕ) → 512 * g ≤ n → x ≡ gone_by n g f → x ≤ n
+gone_within n g f x h e = rw e (if_both (λ y. y ≤ n) (eqb f 0) (omega arith) (omega arith))
 
-lost-few : (s : List ℕ) (q h m : ℕ) → lostAt (lossFrom s q h m) ≤ 16 * m
-lost-few s q h m = go (lossFrom s q h m) refl
+lost_few : (s : List ℕ) (q h m : ℕ) → lost_at (loss_from s q h m) ≤ 16 * m
+lost_few s q h m = go (loss_from s q h m) refl
   where
-    go : (l : Option ℕ) → lossFrom s q h m ≡ l → lostAt l ≤ 16 * m
+    go : (l : Option ℕ) → loss_from s q h m ≡ l → lost_at l ≤ 16 * m
     go none e = omega arith
-    go (some f) e = omega (arith, (from-among s q h m f e).1)
+    go (some f) e = omega (arith, (from_among s q h m f e).1)
 
 -- the whole multiframes, in octets and in bits
 pub whole_is : (s : List ℕ) (q : ℕ) → whole s q ≡ (8 * length s - q) / 4096
 unfolding whole
 whole_is s q = refl
 
-whole-octets : (s : List ℕ) (q g : ℕ) → g ≤ whole s q → 512 * g ≤ length s
+whole_octets : (s : List ℕ) (q g : ℕ) → g ≤ whole s q → 512 * g ≤ length s
 unfolding whole
-whole-octets s q g l = omega arith
+whole_octets s q g l = omega arith
 
-pub whole-bits : (s : List ℕ) (q g : ℕ) → 1 ≤ whole s q → g ≤ whole s q → q + 4096 * g ≤ 8 * length s
+pub whole_bits : (s : List ℕ) (q g : ℕ) → 1 ≤ whole s q → g ≤ whole s q → q + 4096 * g ≤ 8 * length s
 unfolding whole
-whole-bits s q g o l = omega arith
+whole_bits s q g o l = omega arith
 
 -- what `track` tells, with the number of whole multiframes in octets
-pub tracks : (s : List ℕ) (q h m : ℕ) (x : Tracked) → m ≡ (8 * length s - q) / 4096 → x.lost ≡ lostAt (lossFrom s q h m)
-    → x.used ≡ usedOf (lossFrom s q h m) m → h ≤ x.used → x.used ≤ m → x.words ≡ wordErrors s (q + 4096 * h) (x.used - h)
-    → x.wordbits ≡ wordBits s (q + 4096 * h) (x.used - h) → Tracks s q h x
+pub tracks : (s : List ℕ) (q h m : ℕ) (x : Tracked) → m ≡ (8 * length s - q) / 4096 → x.lost ≡ lost_at (loss_from s q h m)
+    → x.used ≡ used_of (loss_from s q h m) m → h ≤ x.used → x.used ≤ m → x.words ≡ word_errors s (q + 4096 * h) (x.used - h)
+    → x.wordbits ≡ word_bits s (q + 4096 * h) (x.used - h) → Tracks s q h x
 unfolding whole
 tracks s q h m x e lost used least most words bits =
     record {
-      its-lost = lost ∙ ap (λ y. lostAt (lossFrom s q h y)) e;
-      its-used = used ∙ ap (λ y. usedOf (lossFrom s q h y) y) e;
+      its_lost = lost ∙ ap (λ y. lost_at (loss_from s q h y)) e;
+      its_used = used ∙ ap (λ y. used_of (loss_from s q h y) y) e;
       at_least = least;
       at_most = omega arith;
-      its-words = words;
-      its-wordbits = bits;
+      its_words = words;
+      its_wordbits = bits;
     }
 
 -- a look at the image: f is the loss or 0, and g are used
-module _ (c : Line) (s : List ℕ) (q h g f : ℕ) (gain : Gain) (eq : q ≡ start_of c.found % 8) (eh : h ≡ keptOf c.used)
-    (eg : g ≡ usedOf (lossFrom s q h (whole s q)) (whole s q)) (ef : f ≡ lostAt (lossFrom s q h (whole s q))) (k : Gains s q h g gain) where
-  is_read : readFrom c s ≡ read_on c s q h (lossFrom s q h (whole s q)) g
+module _ (c : Line) (s : List ℕ) (q h g f : ℕ) (gain : Gain) (eq : q ≡ start_of c.found % 8) (eh : h ≡ kept_of c.used)
+    (eg : g ≡ used_of (loss_from s q h (whole s q)) (whole s q)) (ef : f ≡ lost_at (loss_from s q h (whole s q))) (k : Gains s q h g gain) where
+  is_read : read_from c s ≡ read_on c s q h (loss_from s q h (whole s q)) g
   is_read =
       sym (
-      ap (read_on c s q h (lossFrom s q h (whole s q))) eg
-      ∙ ap₂ (λ b a. read_on c s b a (lossFrom s b a (whole s b)) (usedOf (lossFrom s b a (whole s b)) (whole s b))) eq eh
+      ap (read_on c s q h (loss_from s q h (whole s q))) eg
+      ∙ ap₂ (λ b a. read_on c s b a (loss_from s b a (whole s b)) (used_of (loss_from s b a (whole s b)) (whole s b))) eq eh
       )
 
-  looks-from : (gone lost from : ℕ) (line : Line) → gone ≡ goneBy (length s) g f → lost ≡ lostBy (c.used - h) f
+  looks_from : (gone lost from : ℕ) (line : Line) → gone ≡ gone_by (length s) g f → lost ≡ lost_by (c.used - h) f
       → ((Y : List ℕ → ℕ → ℕ → List ℕ) (u : ℕ) → Leaves Y u → Y s (q + 4096 * h) gain.multiframes ≡ Y s from gain.multiframes)
       → from + 4096 * gain.multiframes ≤ 8 * length s → line ≡ gaining c gain gone lost
-      → Looks (readFrom c s) s (record { line = line; gone = gone; multiframes = gain.multiframes; from = from })
+      → Looks (read_from c s) s (record { line = line; gone = gone; multiframes = gain.multiframes; from = from })
   unfolding read_on
-  looks-from gone lost from line egone elost out there eline =
+  looks_from gone lost from line egone elost out there eline =
       let m = whole s q in
-      let l = lossFrom s q h m in
+      let l = loss_from s q h m in
       let n = gain.multiframes in
-      let en : g - h ≡ n = sym k.its-multiframes in
-      let eb : goneOf (length s) g l ≡ gone = gone-is (length s) g f l (from-late s q h m) ef ∙ sym egone in
-      let el : lostAt (laterBy (16 * (c.used - h)) l) ≡ lost = lost-is (c.used - h) f l (from-late s q h m) ef ∙ sym elost in
+      let en : g - h ≡ n = sym k.its_multiframes in
+      let eb : gone_of (length s) g l ≡ gone = gone_is (length s) g f l (from_late s q h m) ef ∙ sym egone in
+      let el : lost_at (later_by (16 * (c.used - h)) l) ≡ lost = lost_is (c.used - h) f l (from_late s q h m) ef ∙ sym elost in
       let output : (Y : List ℕ → ℕ → ℕ → List ℕ) (u : ℕ) → Leaves Y u → Y s (q + 4096 * h) (g - h) ≡ Y s from n =
       λ Y u k. ap (Y s (q + 4096 * h)) en ∙ out Y u k in
       let same : (read_on c s q h l g).line ≡ line =
@@ -130,37 +130,37 @@ module _ (c : Line) (s : List ℕ) (q h g f : ℕ) (gain : Gain) (eq : q ≡ sta
         found = c.found;
         used = c.used + en i;
         lost = el i;
-        words = c.words + sym k.its-words i;
-        errored = c.errored + sym k.its-errored i;
-        farend = c.farend + sym k.its-farend i;
-        wordbits = c.wordbits + sym k.its-wordbits i;
+        words = c.words + sym k.its_words i;
+        errored = c.errored + sym k.its_errored i;
+        farend = c.farend + sym k.its_farend i;
+        wordbits = c.wordbits + sym k.its_wordbits i;
       })
       ∙ sym eline in
-      looks-as is_read record {
+      looks_as is_read record {
         tells = λ i. record {
           line = same i;
           window = drop (eb i) s;
           multiframes = en i;
-          payload = output payloadOf 496 payload-leaves i;
-          slot0 = output slot0Of 16 slot0-leaves i;
+          payload = output payload_of 496 payload_leaves i;
+          slot0 = output slot0_of 16 slot0_leaves i;
         };
         there = there;
-        within = gone-within (length s) g f gone (whole-octets s q g (omega (arith, used-upto s q h m))) egone;
+        within = gone_within (length s) g f gone (whole_octets s q g (omega (arith, used_upto s q h m))) egone;
       }
 
 -- one at an image in which x was tracked
-pub follows : (c : Line) (s : List ℕ) (q h : ℕ) (x : Tracked) (gain : Gain) → q ≡ start_of c.found % 8 → h ≡ keptOf c.used
+pub follows : (c : Line) (s : List ℕ) (q h : ℕ) (x : Tracked) (gain : Gain) → q ≡ start_of c.found % 8 → h ≡ kept_of c.used
     → 1 ≤ whole s q → Tracks s q h x → Gains s q h x.used gain → (gone lost : ℕ) (line : Line)
-    → gone ≡ goneBy (length s) x.used x.lost → lost ≡ lostBy (c.used - h) x.lost → line ≡ gaining c gain gone lost
-    → Looks (readFrom c s) s (record { line = line; gone = gone; multiframes = gain.multiframes; from = q + 4096 * h })
+    → gone ≡ gone_by (length s) x.used x.lost → lost ≡ lost_by (c.used - h) x.lost → line ≡ gaining c gain gone lost
+    → Looks (read_from c s) s (record { line = line; gone = gone; multiframes = gain.multiframes; from = q + 4096 * h })
 follows c s q h x gain eq eh o t k gone lost line egone elost eline =
-    looks-from c s q h x.used x.lost gain eq eh t.its-used t.its-lost k gone lost (q + 4096 * h) line egone elost
+    looks_from c s q h x.used x.lost gain eq eh t.its_used t.its_lost k gone lost (q + 4096 * h) line egone elost
     (λ Y u l. refl)
-    (omega (arith, whole-bits s q x.used o t.at_most, t.at_least, k.its-multiframes)) eline
+    (omega (arith, whole_bits s q x.used o t.at_most, t.at_least, k.its_multiframes)) eline
 
 -- no multiframe is whole yet, but for the one kept
-nothing-gained : (c : Line) → (still c).line ≡ gaining c noGain 0 0
-nothing-gained c =
+nothing_gained : (c : Line) → (still c).line ≡ gaining c no_gain 0 0
+nothing_gained c =
     let same : (n : ℕ) → n ≡ n + 0 = λ n. omega arith in
     λ i. record {
       before = same c.before i;
@@ -173,25 +173,25 @@ nothing-gained c =
       wordbits = same c.wordbits i;
     }
 
-none_from : (s : List ℕ) (q h m : ℕ) → m ≤ h → lossFrom s q h m ≡ none
-unfolding lossFrom first
+none_from : (s : List ℕ) (q h m : ℕ) → m ≤ h → loss_from s q h m ≡ none
+unfolding loss_from first
 none_from s q h m l = let z : m - h ≡ 0 = omega arith in rw z
 
-pub stays : (c : Line) (s : List ℕ) (q h m : ℕ) → q ≡ start_of c.found % 8 → h ≡ keptOf c.used → m ≡ (8 * length s - q) / 4096
-    → m ≤ h → Looks (readFrom c s) s (still c)
+pub stays : (c : Line) (s : List ℕ) (q h m : ℕ) → q ≡ start_of c.found % 8 → h ≡ kept_of c.used → m ≡ (8 * length s - q) / 4096
+    → m ≤ h → Looks (read_from c s) s (still c)
 unfolding whole
 stays c s q h m eq eh em l =
     let w : whole s q ≤ h = omega arith in
     let e = none_from s q h (whole s q) w in
     let one : 512 * (whole s q - 1) ≡ 0 = omega arith in
-    looks-from c s q h (whole s q) 0 noGain eq eh (sym (ap (λ o. usedOf o (whole s q)) e)) (sym (ap lostAt e))
-    (gains-none s q h (whole s q) w) 0 0 0 (still c).line (sym one) refl (λ Y u k. k.empty s (q + 4096 * h) ∙ sym (k.empty s 0))
-    (omega arith) (nothing-gained c)
+    looks_from c s q h (whole s q) 0 no_gain eq eh (sym (ap (λ o. used_of o (whole s q)) e)) (sym (ap lost_at e))
+    (gains_none s q h (whole s q) w) 0 0 0 (still c).line (sym one) refl (λ Y u k. k.empty s (q + 4096 * h) ∙ sym (k.empty s 0))
+    (omega arith) (nothing_gained c)
 
 -- the line may be said otherwise
-looks-line : {x : Grown} {s : List ℕ} {r : Seen} (line : Line) → line ≡ x.line → Looks x s r
+looks_line : {x : Grown} {s : List ℕ} {r : Seen} (line : Line) → line ≡ x.line → Looks x s r
     → Looks x s (record { line = line; gone = r.gone; multiframes = r.multiframes; from = r.from })
-looks-line {x} {s} {r} line e l =
+looks_line {x} {s} {r} line e l =
     record {
       tells = l.tells ∙ ap (λ y. told s (record { line = y; gone = r.gone; multiframes = r.multiframes; from = r.from }))
           (sym (e ∙ ap (λ (y : Grown). y.line) l.tells));
@@ -200,118 +200,118 @@ looks-line {x} {s} {r} line e l =
     }
 
 -- at most 1,024 octets are kept
-pub kept-few : (s : List ℕ) (q h : ℕ) (x : Tracked) (gone : ℕ) → q < 8 → Tracks s q h x → gone ≡ goneBy (length s) x.used x.lost
+pub kept_few : (s : List ℕ) (q h : ℕ) (x : Tracked) (gone : ℕ) → q < 8 → Tracks s q h x → gone ≡ gone_by (length s) x.used x.lost
     → length (drop gone s) ≤ 1024
 unfolding whole
-kept-few s q h x gone b t e =
+kept_few s q h x gone b t e =
     let m = whole s q in
-    let l = lossFrom s q h m in
+    let l = loss_from s q h m in
     omega (
       arith,
       length-drop gone s,
-      e ∙ sym (gone-is (length s) x.used x.lost l (from-late s q h m) t.its-lost) ∙ ap (λ g. goneOf (length s) g l) t.its-used,
+      e ∙ sym (gone_is (length s) x.used x.lost l (from_late s q h m) t.its_lost) ∙ ap (λ g. gone_of (length s) g l) t.its_used,
       fits l,
     )
   where
-    fits : (l : Option ℕ) → length s ≤ goneOf (length s) (usedOf l (whole s q)) l + 1024
+    fits : (l : Option ℕ) → length s ≤ gone_of (length s) (used_of l (whole s q)) l + 1024
     fits none = omega arith
     fits (some f) = omega arith
 
 -- what was tracked is little
-pub tracked-few : (s : List ℕ) (q h : ℕ) (x : Tracked) → Tracks s q h x
+pub tracked_few : (s : List ℕ) (q h : ℕ) (x : Tracked) → Tracks s q h x
     → (512 * x.used ≤ length s) × (x.lost ≤ length s) × (x.words ≤ length s) × (x.wordbits ≤ length s)
-tracked-few s q h x t =
+tracked_few s q h x t =
     let p = q + 4096 * h in
     let n = x.used - h in
-    let o = whole-octets s q (whole s q) (omega arith) in (
+    let o = whole_octets s q (whole s q) (omega arith) in (
       omega (arith, t.at_most),
-      omega (arith, t.its-lost, lost-few s q h (whole s q)),
-      omega (arith, t.at_most, t.its-words, words-few s p n),
-      omega (arith, t.at_most, t.its-wordbits, bits-few s p n),
+      omega (arith, t.its_lost, lost_few s q h (whole s q)),
+      omega (arith, t.at_most, t.its_words, words_few s p n),
+      omega (arith, t.at_most, t.its_wordbits, bits_few s p n),
     )
 
 -- Two images of a line, of which the first has no loss: what it tells
 
-abbrev pub nearSeen : Line → List ℕ → ℕ → ℕ → Tracked → Seen
-nearSeen c near q h x =
+abbrev pub near_seen : Line → List ℕ → ℕ → ℕ → Tracked → Seen
+near_seen c near q h x =
     record {
-      line = gaining c (gainOf near q h x) (512 * (x.used - 1)) 0;
+      line = gaining c (gain_of near q h x) (512 * (x.used - 1)) 0;
       gone = 512 * (x.used - 1);
       multiframes = x.used - h;
       from = q + 4096 * h;
     }
 
-module _ (c : Line) (near : List ℕ) (q h : ℕ) (x : Tracked) (eq : q ≡ start_of c.found % 8) (eh : h ≡ keptOf c.used)
+module _ (c : Line) (near : List ℕ) (q h : ℕ) (x : Tracked) (eq : q ≡ start_of c.found % 8) (eh : h ≡ kept_of c.used)
     (t : Tracks near q h x) (z : x.lost ≡ 0) (o : 1 ≤ x.used) where
-  pub near-looks : Looks (readFrom c near) near (nearSeen c near q h x)
-  near-looks =
-      follows c near q h x (gainOf near q h x) eq eh (omega (arith, t.at_most)) t (gains-of near q h x t) (512 * (x.used - 1)) 0
-      (nearSeen c near q h x).line (rw (eq-eqb x.lost 0 z)) (rw (eq-eqb x.lost 0 z)) refl
+  pub near_looks : Looks (read_from c near) near (near_seen c near q h x)
+  near_looks =
+      follows c near q h x (gain_of near q h x) eq eh (omega (arith, t.at_most)) t (gains_of near q h x t) (512 * (x.used - 1)) 0
+      (near_seen c near q h x).line (rw (eq-eqb x.lost 0 z)) (rw (eq-eqb x.lost 0 z)) refl
 
-  module _ (far : List ℕ) (y : Tracked) (u : Tracks far q 1 y) (gone lost : ℕ) (eg : gone ≡ goneBy (length far) y.used y.lost)
-      (el : lost ≡ lostBy (c.used + (x.used - h) - 1) y.lost) where
+  module _ (far : List ℕ) (y : Tracked) (u : Tracks far q 1 y) (gone lost : ℕ) (eg : gone ≡ gone_by (length far) y.used y.lost)
+      (el : lost ≡ lost_by (c.used + (x.used - h) - 1) y.lost) where
     -- and the second
-    far-looks : Looks (readFrom (readFrom c near).line far) far (record {
-      line = gaining (nearSeen c near q h x).line (gainOf far q 1 y) gone lost;
+    far_looks : Looks (read_from (read_from c near).line far) far (record {
+      line = gaining (near_seen c near q h x).line (gain_of far q 1 y) gone lost;
       gone = gone;
       multiframes = y.used - 1;
       from = q + 4096;
     })
-    far-looks =
-        let one : 1 ≡ keptOf (c.used + (x.used - h)) = omega arith in
-        let line = (nearSeen c near q h x).line in
-        looks-as (ap (λ (l : Grown). readFrom l.line far) near-looks.tells)
-        (follows line far q 1 y (gainOf far q 1 y) eq one (omega (arith, u.at_least, u.at_most)) u (gains-of far q 1 y u)
-        gone lost (gaining line (gainOf far q 1 y) gone lost) eg el refl)
+    far_looks =
+        let one : 1 ≡ kept_of (c.used + (x.used - h)) = omega arith in
+        let line = (near_seen c near q h x).line in
+        looks_as (ap (λ (l : Grown). read_from l.line far) near_looks.tells)
+        (follows line far q 1 y (gain_of far q 1 y) eq one (omega (arith, u.at_least, u.at_most)) u (gains_of far q 1 y u)
+        gone lost (gaining line (gain_of far q 1 y) gone lost) eg el refl)
 
     -- what is known then
-    pub both-line : (errored farend : ℕ)
+    pub both_line : (errored farend : ℕ)
         → errored ≡ disagreeing near (q + 2048 * compared h) (compared x.used - compared h) + disagreeing far (q + 2048) (compared y.used - 1)
-        → farend ≡ farEnd near (q + 4096 * h) (x.used - h) + farEnd far (q + 4096) (y.used - 1)
+        → farend ≡ far_end near (q + 4096 * h) (x.used - h) + far_end far (q + 4096) (y.used - 1)
         → gaining c (record {
           multiframes = x.used - h + (y.used - 1);
           words = x.words + y.words;
           errored = errored;
           farend = farend;
           wordbits = x.wordbits + y.wordbits;
-        }) (512 * (x.used - 1) + gone) lost ≡ (readFrom (readFrom c near).line far).line
-    both-line errored farend ee ef =
+        }) (512 * (x.used - 1) + gone) lost ≡ (read_from (read_from c near).line far).line
+    both_line errored farend ee ef =
         (λ i. record {
           before = more c.before (512 * (x.used - 1) + gone) (512 * (x.used - 1)) gone refl i;
           found = c.found;
           used = more c.used (x.used - h + (y.used - 1)) (x.used - h) (y.used - 1) refl i;
           lost = lost;
           words = more c.words (x.words + y.words) x.words y.words refl i;
-          errored = more c.errored errored (gainOf near q h x).errored (gainOf far q 1 y).errored ee i;
-          farend = more c.farend farend (gainOf near q h x).farend (gainOf far q 1 y).farend ef i;
+          errored = more c.errored errored (gain_of near q h x).errored (gain_of far q 1 y).errored ee i;
+          farend = more c.farend farend (gain_of near q h x).farend (gain_of far q 1 y).farend ef i;
           wordbits = more c.wordbits (x.wordbits + y.wordbits) x.wordbits y.wordbits refl i;
         })
-        ∙ sym (ap (λ (g : Grown). g.line) far-looks.tells)
+        ∙ sym (ap (λ (g : Grown). g.line) far_looks.tells)
       where
         more : (a n i j : ℕ) → n ≡ i + j → a + n ≡ a + i + j
         more a n i j e = omega arith
 
-    pub far-looks-by : (line : Line) → line ≡ (readFrom (readFrom c near).line far).line
-        → Looks (readFrom (readFrom c near).line far) far (record { line = line; gone = gone; multiframes = y.used - 1; from = q + 4096 })
-    far-looks-by line e = looks-line line e far-looks
+    pub far_looks_by : (line : Line) → line ≡ (read_from (read_from c near).line far).line
+        → Looks (read_from (read_from c near).line far) far (record { line = line; gone = gone; multiframes = y.used - 1; from = q + 4096 })
+    far_looks_by line e = looks_line line e far_looks
 
 -- without loss all whole multiframes are used
 pub used_all : (s : List ℕ) (q h : ℕ) (x : Tracked) → Tracks s q h x → x.lost ≡ 0 → x.used ≡ whole s q
-used_all s q h x t z = t.its-used ∙ go (lossFrom s q h (whole s q)) refl (sym t.its-lost ∙ z)
+used_all s q h x t z = t.its_used ∙ go (loss_from s q h (whole s q)) refl (sym t.its_lost ∙ z)
   where
-    go : (l : Option ℕ) → lossFrom s q h (whole s q) ≡ l → lostAt l ≡ 0 → usedOf l (whole s q) ≡ whole s q
+    go : (l : Option ℕ) → loss_from s q h (whole s q) ≡ l → lost_at l ≡ 0 → used_of l (whole s q) ≡ whole s q
     go none e k = refl
-    go (some f) e k = absurd (omega (arith, from-late s q h (whole s q) f e))
+    go (some f) e k = absurd (omega (arith, from_late s q h (whole s q) f e))
 
 -- after one nothing is kept
-pub lost-keeps-none : (c : Line) (s : List ℕ) (q : ℕ) (x : Tracked) → q ≡ start_of c.found % 8 → Tracks s q (keptOf c.used) x
-    → (x.lost ≡ 0 → ⊥) → length (readFrom c s).window ≡ 0
+pub lost_keeps_none : (c : Line) (s : List ℕ) (q : ℕ) (x : Tracked) → q ≡ start_of c.found % 8 → Tracks s q (kept_of c.used) x
+    → (x.lost ≡ 0 → ⊥) → length (read_from c s).window ≡ 0
 unfolding read_on
-lost-keeps-none c s q x eq t n =
-    let h = keptOf c.used in
-    let l = lossFrom s q h (whole s q) in
+lost_keeps_none c s q x eq t n =
+    let h = kept_of c.used in
+    let l = loss_from s q h (whole s q) in
     let g = x.used in
-    let e : goneOf (length s) g l ≡ length s =
-    gone-is (length s) g x.lost l (from-late s q h (whole s q)) t.its-lost ∙ rw (ne_eqb x.lost 0 n) in
-    ap (λ (y : Grown). length y.window) (is_read c s q h g x.lost (gainOf s q h x) eq refl t.its-used t.its-lost (gains-of s q h x t))
-    ∙ omega (arith, length-drop (goneOf (length s) g l) s, e)
+    let e : gone_of (length s) g l ≡ length s =
+    gone_is (length s) g x.lost l (from_late s q h (whole s q)) t.its_lost ∙ rw (ne_eqb x.lost 0 n) in
+    ap (λ (y : Grown). length y.window) (is_read c s q h g x.lost (gain_of s q h x) eq refl t.its_used t.its_lost (gains_of s q h x t))
+    ∙ omega (arith, length-drop (gone_of (length s) g l) s, e)

@@ -10,160 +10,160 @@ use lib.Dec.{ltb}
 use lib.ListN.{length, take, drop, length-append, length-drop, take-append-drop}
 use lib.Seq.{drop-append-le, drop-append-add, length-take-le}
 use Rattle.base.specs.Choice.{if◌then◌else◌}
-use Rattle.measure.specs.Reading.{payloadOf, slot0Of}
-use Rattle.measure.proofs.Laws.{payload-length, slot0-length}
+use Rattle.measure.specs.Reading.{payload_of, slot0_of}
+use Rattle.measure.proofs.Laws.{payload_length, slot0_length}
 use Rattle.align.specs.Place.{start_of}
 use Rattle.measure.specs.declared.Tracked.{Tracked}
-use Rattle.growth.specs.Growth.{Grown, keptOf, readFrom, grown, after}
+use Rattle.growth.specs.Growth.{Grown, kept_of, read_from, grown, after}
 use Rattle.growth.specs.Small.{Small}
 use Rattle.growth.specs.declared.Line.{Line}
-use Rattle.growth.proofs.Bounds.{grown-short, grown-small}
-use Rattle.growth.proofs.SearchCut.{grown-cut}
-use Rattle.growth.proofs.ReadCut.{found-reads}
+use Rattle.growth.proofs.Bounds.{grown_short, grown_small}
+use Rattle.growth.proofs.SearchCut.{grown_cut}
+use Rattle.growth.proofs.ReadCut.{found_reads}
 use Rattle.chunk.specs.Look.{told, Looks, Stood, Tracks}
-use Rattle.chunk.specs.Taking.{lacksRoom, lacking, taking, over, Takes}
+use Rattle.chunk.specs.Taking.{lacks_room, lacking, taking, over, Takes}
 use Rattle.chunk.specs.declared.Seen.{Seen}
 use Rattle.chunk.specs.declared.Took.{Took}
 use Rattle.chunk.proofs.BufferLaws.{to_end}
-use Rattle.chunk.proofs.FollowLaws.{looks-as, nearSeen, near-looks}
+use Rattle.chunk.proofs.FollowLaws.{looks_as, near_seen, near_looks}
 
-pub has_room : (a b n : ℕ) → lacksRoom a b n ≡ false → (496 * n ≤ a) × (16 * n ≤ b)
-unfolding lacksRoom
+pub has_room : (a b n : ℕ) → lacks_room a b n ≡ false → (496 * n ≤ a) × (16 * n ≤ b)
+unfolding lacks_room
 has_room a b n h =
     let f = (or-eq-false-eq-eq-false-and-eq-false (ltb a (496 * n)) (ltb b (16 * n))).0 h in
     (ltb-false a (496 * n) f.0, ltb-false b (16 * n) f.1)
 
-pub takes-as : {x y : Grown} {c : Line} {fill : ℕ} {w p o : List ℕ} {r : Took} {w' p' o' : List ℕ} → x ≡ y
+pub takes_as : {x y : Grown} {c : Line} {fill : ℕ} {w p o : List ℕ} {r : Took} {w' p' o' : List ℕ} → x ≡ y
     → Takes y c fill w p o r w' p' o' → Takes x c fill w p o r w' p' o'
-takes-as e t = rw e t
+takes_as e t = rw e t
 
 module _ (c : Line) (fill : ℕ) (w p o : List ℕ) where
   -- an output lacks room
-  pub not_taken : (x : Grown) → lacksRoom (length p) (length o) x.multiframes ≡ true
+  pub not_taken : (x : Grown) → lacks_room (length p) (length o) x.multiframes ≡ true
       → Takes x c fill w p o (lacking c fill) w p o
   not_taken x h =
       record {
-        its-answer = sym (ap (λ t. if t then lacking c fill else taking x) h);
-        its-window = refl;
-        its-payload = refl;
-        its-slot0 = refl;
+        its_answer = sym (ap (λ t. if t then lacking c fill else taking x) h);
+        its_window = refl;
+        its_payload = refl;
+        its_slot0 = refl;
       }
 
   -- both have it
   taken : (x : Grown) (n : ℕ) → n ≡ length x.window → length x.payload ≡ 496 * x.multiframes
-      → length x.slot0 ≡ 16 * x.multiframes → lacksRoom (length p) (length o) x.multiframes ≡ false
+      → length x.slot0 ≡ 16 * x.multiframes → lacks_room (length p) (length o) x.multiframes ≡ false
       → (w' p' o' : List ℕ) → w' ≡ over x.window w → p' ≡ x.payload ++ drop (496 * x.multiframes) p
       → o' ≡ x.slot0 ++ drop (16 * x.multiframes) o
       → Takes x c fill w p o (record { number = 0; line = x.line; fill = n; multiframes = x.multiframes }) w' p' o'
   taken x n en ep eo h w' p' o' hw hp ho =
       record {
-        its-answer = (λ i. record { number = 0; line = x.line; fill = en i; multiframes = x.multiframes })
+        its_answer = (λ i. record { number = 0; line = x.line; fill = en i; multiframes = x.multiframes })
             ∙ sym (ap (λ t. if t then lacking c fill else taking x) h);
-        its-window = hw;
-        its-payload = hp ∙ ap (λ z. x.payload ++ drop z p) (sym ep);
-        its-slot0 = ho ∙ ap (λ z. x.slot0 ++ drop z o) (sym eo);
+        its_window = hw;
+        its_payload = hp ∙ ap (λ z. x.payload ++ drop z p) (sym ep);
+        its_slot0 = ho ∙ ap (λ z. x.slot0 ++ drop z o) (sym eo);
       }
 
   -- what one look tells
-  pub taken-image : (s : List ℕ) (r : Seen) (n : ℕ) → n ≡ length (drop r.gone s)
-      → lacksRoom (length p) (length o) r.multiframes ≡ false → (w' p' o' : List ℕ) → w' ≡ over (drop r.gone s) w
-      → p' ≡ payloadOf s r.from r.multiframes ++ drop (496 * r.multiframes) p
-      → o' ≡ slot0Of s r.from r.multiframes ++ drop (16 * r.multiframes) o
+  pub taken_image : (s : List ℕ) (r : Seen) (n : ℕ) → n ≡ length (drop r.gone s)
+      → lacks_room (length p) (length o) r.multiframes ≡ false → (w' p' o' : List ℕ) → w' ≡ over (drop r.gone s) w
+      → p' ≡ payload_of s r.from r.multiframes ++ drop (496 * r.multiframes) p
+      → o' ≡ slot0_of s r.from r.multiframes ++ drop (16 * r.multiframes) o
       → Takes (told s r) c fill w p o (record { number = 0; line = r.line; fill = n; multiframes = r.multiframes }) w' p' o'
-  taken-image s r n en =
-      taken (told s r) n en (payload-length s r.from r.multiframes) (slot0-length s r.from r.multiframes)
+  taken_image s r n en =
+      taken (told s r) n en (payload_length s r.from r.multiframes) (slot0_length s r.from r.multiframes)
 
   -- what two tell, one after the other
-  pub taken-two : (s t : List ℕ) (x y : Seen) (n : ℕ) → n ≡ length (drop y.gone t)
-      → lacksRoom (length p) (length o) (x.multiframes + y.multiframes) ≡ false → (w' p' o' : List ℕ)
+  pub taken_two : (s t : List ℕ) (x y : Seen) (n : ℕ) → n ≡ length (drop y.gone t)
+      → lacks_room (length p) (length o) (x.multiframes + y.multiframes) ≡ false → (w' p' o' : List ℕ)
       → w' ≡ over (drop y.gone t) w
-      → p' ≡ (payloadOf s x.from x.multiframes ++ payloadOf t y.from y.multiframes)
+      → p' ≡ (payload_of s x.from x.multiframes ++ payload_of t y.from y.multiframes)
       ++ drop (496 * (x.multiframes + y.multiframes)) p
-      → o' ≡ (slot0Of s x.from x.multiframes ++ slot0Of t y.from y.multiframes)
+      → o' ≡ (slot0_of s x.from x.multiframes ++ slot0_of t y.from y.multiframes)
       ++ drop (16 * (x.multiframes + y.multiframes)) o
       → Takes (after (told s x) (told t y)) c fill w p o
       (record { number = 0; line = y.line; fill = n; multiframes = x.multiframes + y.multiframes }) w' p' o'
-  taken-two s t x y n en =
+  taken_two s t x y n en =
       taken (after (told s x) (told t y)) n en
-      (length-append (payloadOf s x.from x.multiframes) (payloadOf t y.from y.multiframes)
-      ∙ omega (arith, payload-length s x.from x.multiframes, payload-length t y.from y.multiframes))
-      (length-append (slot0Of s x.from x.multiframes) (slot0Of t y.from y.multiframes)
-      ∙ omega (arith, slot0-length s x.from x.multiframes, slot0-length t y.from y.multiframes))
+      (length-append (payload_of s x.from x.multiframes) (payload_of t y.from y.multiframes)
+      ∙ omega (arith, payload_length s x.from x.multiframes, payload_length t y.from y.multiframes))
+      (length-append (slot0_of s x.from x.multiframes) (slot0_of t y.from y.multiframes)
+      ∙ omega (arith, slot0_length s x.from x.multiframes, slot0_length t y.from y.multiframes))
 
 -- an image that is looked at
 module _ (c : Line) (s : List ℕ) (r : Seen) (l : Looks (grown c s) s r) where
   -- what is kept fits the window
-  pub kept-short : length (drop r.gone s) ≤ 2048
-  kept-short = subst (λ (y : Grown). length y.window ≤ 2048) l.tells (grown-short c s)
+  pub kept_short : length (drop r.gone s) ≤ 2048
+  kept_short = subst (λ (y : Grown). length y.window ≤ 2048) l.tells (grown_short c s)
 
   -- the line's numbers stay small
-  pub small-then : (n : ℕ) → Small c n → Small r.line (n + length s)
-  small-then n h = subst (λ (y : Grown). Small y.line (n + length s)) l.tells (grown-small c s n h)
+  pub small_then : (n : ℕ) → Small c n → Small r.line (n + length s)
+  small_then n h = subst (λ (y : Grown). Small y.line (n + length s)) l.tells (grown_small c s n h)
 
 -- an image s of the window w and the chunk's first n octets
 module _ (s w chunk : List ℕ) (fill n : ℕ) (f : length w ≡ fill) (h : n ≤ length chunk) (e : s ≡ w ++ take n chunk) where
-  pub near-length : length s ≡ fill + n
-  near-length = ap length e ∙ length-append w (take n chunk) ∙ ap₂ ◌+◌ f (length-take-le n chunk h)
+  pub near_length : length s ≡ fill + n
+  near_length = ap length e ∙ length-append w (take n chunk) ∙ ap₂ ◌+◌ f (length-take-le n chunk h)
 
   -- What is kept lies in the chunk: with the rest of the chunk it is the chunk from there on, which is looked at next.
   module _ (c : Line) (r : Seen) (l : Looks (grown c s) s r) (k : length (grown c s).window ≤ n) where
-    pub lies-in-chunk : (fill ≤ r.gone) × (r.gone - fill ≤ n)
-    lies-in-chunk =
+    pub lies_in_chunk : (fill ≤ r.gone) × (r.gone - fill ≤ n)
+    lies_in_chunk =
         let z : length (grown c s).window ≡ length (drop r.gone s) = ap (λ (y : Grown). length y.window) l.tells in
-        (omega (arith, near-length, length-drop r.gone s), omega (arith, near-length, l.within))
+        (omega (arith, near_length, length-drop r.gone s), omega (arith, near_length, l.within))
 
-    kept-is : drop r.gone s ++ drop n chunk ≡ drop (r.gone - fill) chunk
-    kept-is =
+    kept_is : drop r.gone s ++ drop n chunk ≡ drop (r.gone - fill) chunk
+    kept_is =
         let a = take n chunk in
         let b = drop n chunk in
         let m = r.gone - fill in
-        let g : r.gone ≡ length w + m = omega (arith, lies-in-chunk) in
+        let g : r.gone ≡ length w + m = omega (arith, lies_in_chunk) in
         ap₂ (λ x y. drop x y ++ b) g e
         ∙ ap (λ x. x ++ b) (drop-append-add w a m)
-        ∙ sym (drop-append-le m a b (omega (arith, lies-in-chunk, length-take-le n chunk h)))
+        ∙ sym (drop-append-le m a b (omega (arith, lies_in_chunk, length-take-le n chunk h)))
         ∙ ap (drop m) (take-append-drop n chunk)
 
-    pub cut-there : grown c (w ++ chunk)
+    pub cut_there : grown c (w ++ chunk)
         ≡ after (grown c s) (grown r.line (take (length chunk - (r.gone - fill)) (drop (r.gone - fill) chunk)))
-    cut-there =
+    cut_there =
         let a = take n chunk in
         let b = drop n chunk in
         let whole : w ++ chunk ≡ s ++ b =
         ap (λ x. w ++ x) (sym (take-append-drop n chunk)) ∙ sym (append_assoc w a b) ∙ ap (λ x. x ++ b) (sym e) in
         ap (grown c) whole
-        ∙ grown-cut c s b
+        ∙ grown_cut c s b
         ∙ ap (λ (y : Grown). after (grown c s) (grown y.line (y.window ++ b))) l.tells
-        ∙ ap (λ x. after (grown c s) (grown r.line x)) (kept-is ∙ sym (to_end chunk (r.gone - fill)))
+        ∙ ap (λ x. after (grown c s) (grown r.line x)) (kept_is ∙ sym (to_end chunk (r.gone - fill)))
 
 -- k multiframes hold the window's octets, and the image ends an octet behind the next one
-pub next-used : (k q n u : ℕ) → q < 8 → n ≡ 512 * k + 513 → u ≡ (8 * n - q) / 4096 → u ≡ k + 1
-next-used k q n u h e w = omega arith
+pub next_used : (k q n u : ℕ) → q < 8 → n ≡ 512 * k + 513 → u ≡ (8 * n - q) / 4096 → u ≡ k + 1
+next_used k q n u h e w = omega arith
 
-pub next-holds : (fill : ℕ) → fill ≤ 1024 → (fill ≤ 512 * ((fill + 511) / 512)) × (512 * ((fill + 511) / 512) ≤ 1024)
-next-holds fill h = (omega arith, omega arith)
+pub next_holds : (fill : ℕ) → fill ≤ 1024 → (fill ≤ 512 * ((fill + 511) / 512)) × (512 * ((fill + 511) / 512) ≤ 1024)
+next_holds fill h = (omega arith, omega arith)
 
 -- where a place stands, and x was tracked in the image s without loss
 module _ (c : Line) (s w chunk : List ℕ) (fill n q : ℕ) (x : Tracked) (f : length w ≡ fill) (h : n ≤ length chunk)
-    (e : s ≡ w ++ take n chunk) (stood : Stood c) (eq : q ≡ start_of c.found % 8) (t : Tracks s q (keptOf c.used) x) (z : x.lost ≡ 0)
+    (e : s ≡ w ++ take n chunk) (stood : Stood c) (eq : q ≡ start_of c.found % 8) (t : Tracks s q (kept_of c.used) x) (z : x.lost ≡ 0)
     (o : 1 ≤ x.used) (k : fill ≤ 512 * (x.used - 1)) where
-  abbrev chunk-from : List ℕ
-  chunk-from = take (length chunk - (512 * (x.used - 1) - fill)) (drop (512 * (x.used - 1) - fill) chunk)
+  abbrev chunk_from : List ℕ
+  chunk_from = take (length chunk - (512 * (x.used - 1) - fill)) (drop (512 * (x.used - 1) - fill) chunk)
 
-  pub cut-both : grown c (w ++ chunk) ≡ after (readFrom c s) (readFrom (readFrom c s).line chunk-from)
-  cut-both =
-      let r = nearSeen c s q (keptOf c.used) x in
-      let l = near-looks c s q (keptOf c.used) x eq refl t z o in
-      let reads = found-reads c stood.p stood.k stood.stands s stood.not-lost in
-      let kept : length (readFrom c s).window ≡ length (drop (512 * (x.used - 1)) s) = ap (λ (y : Grown). length y.window) l.tells in
+  pub cut_both : grown c (w ++ chunk) ≡ after (read_from c s) (read_from (read_from c s).line chunk_from)
+  cut_both =
+      let r = near_seen c s q (kept_of c.used) x in
+      let l = near_looks c s q (kept_of c.used) x eq refl t z o in
+      let reads = found_reads c stood.p stood.k stood.stands s stood.not_lost in
+      let kept : length (read_from c s).window ≡ length (drop (512 * (x.used - 1)) s) = ap (λ (y : Grown). length y.window) l.tells in
       let short : length (grown c s).window ≤ n =
       omega (
         arith,
         ap (λ (y : Grown). length y.window) reads,
         kept,
         length-drop (512 * (x.used - 1)) s,
-        near-length s w chunk fill n f h e,
+        near_length s w chunk fill n f h e,
       ) in
-      cut-there s w chunk fill n f h e c r (looks-as reads l) short
+      cut_there s w chunk fill n f h e c r (looks_as reads l) short
       ∙ ap₂ after reads
-      (found-reads r.line stood.p stood.k stood.stands chunk-from refl
-      ∙ ap (λ (y : Grown). readFrom y.line chunk-from) (sym l.tells))
+      (found_reads r.line stood.p stood.k stood.stands chunk_from refl
+      ∙ ap (λ (y : Grown). read_from y.line chunk_from) (sym l.tells))

@@ -4,7 +4,7 @@ use Rattle.base.specs.Choice.{if◌then◌else◌}
 use Rattle.align.specs.declared.Found.{Found}
 use Rattle.align.specs.declared.Found.TheVariants.{At}
 use Rattle.measure.specs.declared.Tracked.{Tracked}
-use Rattle.measure.specs.Reading.{whole, lossFrom, lostAt, usedOf, payloadOf, slot0Of, wordErrors, wordBits, compared, disagreeing, farEnd}
+use Rattle.measure.specs.Reading.{whole, loss_from, lost_at, used_of, payload_of, slot0_of, word_errors, word_bits, compared, disagreeing, far_end}
 use Rattle.growth.specs.Growth.{Grown, unread}
 use Rattle.growth.specs.declared.Line.{Line}
 use Rattle.chunk.specs.declared.Seen.{Seen}
@@ -19,12 +19,12 @@ pub record Few (r : Gain) (n : ℕ) : Type 0 where
   pub wordbits : r.wordbits ≤ n
 
 -- the loss at a frame of the image, or 0, with so many multiframes before the image
-abbrev pub lostBy : ℕ → ℕ → ℕ
-lostBy multiframes lost = if eqb lost 0 then 0 else 16 * multiframes + lost
+abbrev pub lost_by : ℕ → ℕ → ℕ
+lost_by multiframes lost = if eqb lost 0 then 0 else 16 * multiframes + lost
 
 -- the octets of n that are let go, with g multiframes used
-abbrev pub goneBy : ℕ → ℕ → ℕ → ℕ
-goneBy n g lost = if eqb lost 0 then 512 * (g - 1) else n
+abbrev pub gone_by : ℕ → ℕ → ℕ → ℕ
+gone_by n g lost = if eqb lost 0 then 512 * (g - 1) else n
 
 -- what is known then
 abbrev pub gaining : Line → Gain → ℕ → ℕ → Line
@@ -85,11 +85,11 @@ passing n c =
 
 -- what g multiframes from q on give beyond the first h
 pub record Gains (s : List ℕ) (q h g : ℕ) (r : Gain) : Type 0 where
-  pub its-multiframes : r.multiframes ≡ g - h
-  pub its-words : r.words ≡ wordErrors s (q + 4096 * h) (g - h)
-  pub its-errored : r.errored ≡ disagreeing s (q + 2048 * compared h) (compared g - compared h)
-  pub its-farend : r.farend ≡ farEnd s (q + 4096 * h) (g - h)
-  pub its-wordbits : r.wordbits ≡ wordBits s (q + 4096 * h) (g - h)
+  pub its_multiframes : r.multiframes ≡ g - h
+  pub its_words : r.words ≡ word_errors s (q + 4096 * h) (g - h)
+  pub its_errored : r.errored ≡ disagreeing s (q + 2048 * compared h) (compared g - compared h)
+  pub its_farend : r.farend ≡ far_end s (q + 4096 * h) (g - h)
+  pub its_wordbits : r.wordbits ≡ word_bits s (q + 4096 * h) (g - h)
   pub few : Few r (56 * g)
 
 -- what r tells of the image s
@@ -99,8 +99,8 @@ told s r =
       line = r.line;
       window = drop r.gone s;
       multiframes = r.multiframes;
-      payload = payloadOf s r.from r.multiframes;
-      slot0 = slot0Of s r.from r.multiframes;
+      payload = payload_of s r.from r.multiframes;
+      slot0 = slot0_of s r.from r.multiframes;
     }
 
 -- x is what the image s makes of a line: r tells it, and speaks of bits and octets that are there
@@ -114,13 +114,13 @@ pub record Stood (c : Line) : Type 0 where
   pub p : ℕ
   pub k : ℕ
   pub stands : c.found ≡ At p k
-  pub not-lost : c.lost ≡ 0
+  pub not_lost : c.lost ≡ 0
 
 -- x was tracked in the image's multiframes from h on
 pub record Tracks (s : List ℕ) (q h : ℕ) (x : Tracked) : Type 0 where
-  pub its-lost : x.lost ≡ lostAt (lossFrom s q h (whole s q))
-  pub its-used : x.used ≡ usedOf (lossFrom s q h (whole s q)) (whole s q)
+  pub its_lost : x.lost ≡ lost_at (loss_from s q h (whole s q))
+  pub its_used : x.used ≡ used_of (loss_from s q h (whole s q)) (whole s q)
   pub at_least : h ≤ x.used
   pub at_most : x.used ≤ whole s q
-  pub its-words : x.words ≡ wordErrors s (q + 4096 * h) (x.used - h)
-  pub its-wordbits : x.wordbits ≡ wordBits s (q + 4096 * h) (x.used - h)
+  pub its_words : x.words ≡ word_errors s (q + 4096 * h) (x.used - h)
+  pub its_wordbits : x.wordbits ≡ word_bits s (q + 4096 * h) (x.used - h)

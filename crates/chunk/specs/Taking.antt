@@ -7,8 +7,8 @@ use Rattle.growth.specs.declared.Line.{Line}
 use Rattle.chunk.specs.declared.Took.{Took}
 
 -- n multiframes need more octets than outputs of a and b octets have
-unfoldable pub lacksRoom : ℕ → ℕ → ℕ → Bool
-lacksRoom a b n = ltb a (496 * n) || ltb b (16 * n)
+unfoldable pub lacks_room : ℕ → ℕ → ℕ → Bool
+lacks_room a b n = ltb a (496 * n) || ltb b (16 * n)
 
 -- an output lacks room: all stays as it was
 abbrev pub lacking : Line → ℕ → Took
@@ -24,7 +24,7 @@ over octets buffer = octets ++ drop (length octets) buffer
 
 -- the line c has `fill` octets in the window, and a chunk would make x of it
 pub record Takes (x : Grown) (c : Line) (fill : ℕ) (window payload slot0 : List ℕ) (r : Took) (window' payload' slot0' : List ℕ) : Type 0 where
-  pub its-answer : r ≡ (if lacksRoom (length payload) (length slot0) x.multiframes then lacking c fill else taking x)
-  pub its-window : window' ≡ accepted r.number (over x.window window) window
-  pub its-payload : payload' ≡ accepted r.number (over x.payload payload) payload
-  pub its-slot0 : slot0' ≡ accepted r.number (over x.slot0 slot0) slot0
+  pub its_answer : r ≡ (if lacks_room (length payload) (length slot0) x.multiframes then lacking c fill else taking x)
+  pub its_window : window' ≡ accepted r.number (over x.window window) window
+  pub its_payload : payload' ≡ accepted r.number (over x.payload payload) payload
+  pub its_slot0 : slot0' ≡ accepted r.number (over x.slot0 slot0) slot0

@@ -1,14 +1,14 @@
 // A chunk of a line, joined to the window before it: the image is looked at, and what leaves is written.
 ghost use Rattle.std.specs.Prelude.{◌≡◌, true, ◌++◌, ◌+◌, ◌-◌, ◌*◌, ◌/◌, ◌%◌, ◌^◌, ◌<◌, ◌≤◌, length, take, drop, replicate};
 ghost use Rattle.line.specs.Bit.{Room};
-ghost use Rattle.align.specs.Place.{foundIn, start_of};
+ghost use Rattle.align.specs.Place.{found_in, start_of};
 ghost use Rattle.align.specs.declared.Found.TheVariants.{At, BasicAt, Nothing};
-ghost use Rattle.measure.specs.Reading.{whole, payloadOf, slot0Of, wordErrors, wordBits, disagreeing, farEnd};
-ghost use Rattle.growth.specs.Growth.{keptOf, readFrom, searched, grown, fed, after};
+ghost use Rattle.measure.specs.Reading.{whole, payload_of, slot0_of, word_errors, word_bits, disagreeing, far_end};
+ghost use Rattle.growth.specs.Growth.{kept_of, read_from, searched, grown, fed, after};
 ghost use Rattle.growth.specs.Growth as Growth;
 ghost use Rattle.growth.specs.Small.{Small};
-ghost use Rattle.chunk.specs.Look.{Few, lostBy, goneBy, gaining, still, Gains, waiting, passing, Looks, Stood, Tracks};
-ghost use Rattle.chunk.specs.Taking.{lacksRoom, lacking, over, Takes};
+ghost use Rattle.chunk.specs.Look.{Few, lost_by, gone_by, gaining, still, Gains, waiting, passing, Looks, Stood, Tracks};
+ghost use Rattle.chunk.specs.Taking.{lacks_room, lacking, over, Takes};
 
 use align::Found;
 use growth::Line;
@@ -76,7 +76,7 @@ pub fn start_of(found: Found) -> usize
 
 // 1 where a multiframe has left, which is then kept
 fn kept(used: usize) -> usize
-    ensures { result ≡ keptOf used }
+    ensures { result ≡ kept_of used }
 {
     if used == 0 {
         return 0;
@@ -88,8 +88,8 @@ fn kept(used: usize) -> usize
 fn gained(s: &[u8], q: usize, h: usize, g: usize, words: usize, wordbits: usize) -> Gain
     requires { Room s.now q (4096 * g)
         × (h ≤ g)
-        × (words ≡ wordErrors s.now (q + 4096 * h) (g - h))
-        × (wordbits ≡ wordBits s.now (q + 4096 * h) (g - h)) }
+        × (words ≡ word_errors s.now (q + 4096 * h) (g - h))
+        × (wordbits ≡ word_bits s.now (q + 4096 * h) (g - h)) }
     ensures { Gains s.now q h g result }
 {
     let judged = measure::compared(h);
@@ -107,7 +107,7 @@ fn gained(s: &[u8], q: usize, h: usize, g: usize, words: usize, wordbits: usize)
 // the frame of loss as the line counts it, where so many multiframes stand before the image
 fn lost_by(multiframes: usize, lost: usize) -> usize
     requires { (multiframes ≤ 2 ^ 50) × (lost ≤ 2 ^ 50) }
-    ensures { result ≡ lostBy multiframes lost }
+    ensures { result ≡ lost_by multiframes lost }
 {
     if lost == 0 {
         return 0;
@@ -118,7 +118,7 @@ fn lost_by(multiframes: usize, lost: usize) -> usize
 // the octets of n that are let go, with g multiframes used and a frame of loss or 0
 fn gone_by(n: usize, g: usize, lost: usize) -> usize
     requires { g ≤ 2 ^ 50 }
-    ensures { result ≡ goneBy n g lost }
+    ensures { result ≡ gone_by n g lost }
 {
     if lost == 0 {
         return 512 * less(g, 1);
@@ -159,7 +159,7 @@ fn still(c: Line) -> Seen
 // an image, from the start's bit on
 fn follow(s: &[u8], c: Line) -> Seen
     requires { Small c (2 ^ 41) × (length s.now ≤ 2 ^ 30) }
-    ensures { Looks (readFrom c s.now) s.now result }
+    ensures { Looks (read_from c s.now) s.now result }
 {
     let found = c.found;
     let q = start_of(found) % 8;
@@ -183,7 +183,7 @@ fn follow(s: &[u8], c: Line) -> Seen
 
 // an image, from the first place that stands in it
 fn from_place(s: &[u8], before: usize, place: usize, k: usize) -> Seen
-    requires { (before ≤ 2 ^ 40) × (length s.now ≤ 2 ^ 30) × (foundIn s.now ≡ At place k) }
+    requires { (before ≤ 2 ^ 40) × (length s.now ≤ 2 ^ 30) × (found_in s.now ≡ At place k) }
     ensures { Looks (searched before Nothing s.now (At place k)) s.now result }
 {
     let q = place + 512 * k;
@@ -231,7 +231,7 @@ fn noted(known: Found, place: usize) -> Found
 // an image, searched
 fn search(s: &[u8], before: usize, known: Found) -> Seen
     requires { (before ≤ 2 ^ 40) × (length s.now ≤ 2 ^ 30) }
-    ensures { Looks (searched before known s.now (foundIn s.now)) s.now result }
+    ensures { Looks (searched before known s.now (found_in s.now)) s.now result }
 {
     let found = align::find(s);
     match found {
@@ -324,7 +324,7 @@ fn keep(s: &[u8], gone: usize, window: &mut [u8]) -> usize
 // n multiframes need more octets than the outputs have
 fn lacks_room(payload: usize, slot0: usize, n: usize) -> bool
     requires { n ≤ 2 ^ 50 }
-    ensures { result ≡ lacksRoom payload slot0 n }
+    ensures { result ≡ lacks_room payload slot0 n }
 {
     (payload < 496 * n) | (slot0 < 16 * n)
 }
@@ -411,7 +411,7 @@ fn take_middle(
 fn put_payloads(near: &[u8], p: usize, m: usize, far: &[u8], q: usize, n: usize, out: &mut [u8])
     requires { Room near.now p (4096 * m) × Room far.now q (4096 * n) × (496 * (m + n) ≤ length out.old) }
     ensures { out.new
-        ≡ (payloadOf near.now p m ++ payloadOf far.now q n) ++ drop (496 * (m + n)) out.old }
+        ≡ (payload_of near.now p m ++ payload_of far.now q n) ++ drop (496 * (m + n)) out.old }
 {
     measure::payload_of(near, p, m, out);
     let a = 496 * m;
@@ -422,7 +422,7 @@ fn put_payloads(near: &[u8], p: usize, m: usize, far: &[u8], q: usize, n: usize,
 fn put_slots0(near: &[u8], p: usize, m: usize, far: &[u8], q: usize, n: usize, out: &mut [u8])
     requires { Room near.now p (4096 * m) × Room far.now q (4096 * n) × (16 * (m + n) ≤ length out.old) }
     ensures { out.new
-        ≡ (slot0Of near.now p m ++ slot0Of far.now q n) ++ drop (16 * (m + n)) out.old }
+        ≡ (slot0_of near.now p m ++ slot0_of far.now q n) ++ drop (16 * (m + n)) out.old }
 {
     measure::slot0_of(near, p, m, out);
     let a = 16 * m;
@@ -522,7 +522,7 @@ fn judge_both(near: &[u8], p: usize, m: usize, far: &[u8], q: usize, n: usize) -
 // and how many E bits are 0
 fn far_ends(near: &[u8], p: usize, m: usize, far: &[u8], q: usize, n: usize) -> usize
     requires { Room near.now p (4096 * m) × Room far.now q (4096 * n) × (m ≤ 2 ^ 50) × (n ≤ 2 ^ 50) }
-    ensures { result ≡ farEnd near.now p m + farEnd far.now q n }
+    ensures { result ≡ far_end near.now p m + far_end far.now q n }
 {
     measure::far_end(near, p, m) + measure::far_end(far, q, n)
 }
@@ -539,10 +539,10 @@ fn read_both(
     gone: usize,
 ) -> Line
     requires { Small c (2 ^ 39) × (length near.now ≤ 2 ^ 30) × (length far.now ≤ 2 ^ 30)
-        × (q ≡ start_of c.found % 8) × (h ≡ keptOf c.used)
+        × (q ≡ start_of c.found % 8) × (h ≡ kept_of c.used)
         × Tracks near.now q h x × (x.lost ≡ 0) × (1 ≤ x.used) × Tracks far.now q 1 y
-        × (gone ≡ goneBy (length far.now) y.used y.lost) }
-    ensures { result ≡ (readFrom (readFrom c near.now).line far.now).line }
+        × (gone ≡ gone_by (length far.now) y.used y.lost) }
+    ensures { result ≡ (read_from (read_from c near.now).line far.now).line }
 {
     let m = x.used - h;
     let n = y.used - 1;
@@ -585,9 +585,9 @@ fn take_both(
     slot0: &mut [u8],
 ) -> Took
     requires { Small c (2 ^ 39) × (length near.now ≤ 2 ^ 30) × (length far.now ≤ 2 ^ 30) × (length window.old ≡ 2048)
-        × (q ≡ start_of c.found % 8) × Tracks near.now q (keptOf c.used) x × (x.lost ≡ 0) × (1 ≤ x.used)
+        × (q ≡ start_of c.found % 8) × Tracks near.now q (kept_of c.used) x × (x.lost ≡ 0) × (1 ≤ x.used)
         × (1 ≤ whole far.now q) }
-    ensures { Takes (after (readFrom c near.now) (readFrom (readFrom c near.now).line far.now)) c fill
+    ensures { Takes (after (read_from c near.now) (read_from (read_from c near.now).line far.now)) c fill
         window.old payload.old slot0.old
         result window.new payload.new slot0.new }
 {
@@ -630,7 +630,7 @@ fn take_tracked(
         × (2048 ≤ fill + length chunk.now) × (length chunk.now ≤ 2 ^ 30)
         × (q ≡ start_of c.found % 8) × (fill + n ≡ 512 * ((fill + 511) / 512) + 513)
         × (near.now ≡ take fill window.old ++ take n chunk.now)
-        × Tracks near.now q (keptOf c.used) x }
+        × Tracks near.now q (kept_of c.used) x }
     ensures { Takes (fed c (take fill window.old) chunk.now) c fill
         window.old payload.old slot0.old
         result window.new payload.new slot0.new }

@@ -11,43 +11,43 @@ use native.Mathlib.Omega.{arith}
 use borrow.Author.Tests.{eq-eqb, eqb-true, leb-true, le-leb, lt-ltb, le-ltb, ltb-false, not-false}
 use lib.Dec.{eqb, leb, ltb, lit≤}
 use lib.ListN.{length, get_or, get_or-eq_default}
-use Rattle.base.proofs.AnswerLaws.{first-tells, tells_first}
+use Rattle.base.proofs.AnswerLaws.{first_tells, tells_first}
 use Rattle.base.proofs.TabLaws.{at_all}
 use Rattle.e1.specs.Payload.{multiframes, sized}
-use Rattle.align.specs.Place.{Standing, firstStanding, number_of, placeOf}
-use Rattle.align.specs.Why.{whyRefusal}
+use Rattle.align.specs.Place.{Standing, first_standing, number_of, place_of}
+use Rattle.align.specs.Why.{why_refusal}
 use Rattle.align.specs.declared.Found.{Found}
 use Rattle.align.specs.declared.Found.TheVariants.{At, BasicAt, Nothing}
-use Rattle.align.proofs.Laws.{first-stands, none-stands}
+use Rattle.align.proofs.Laws.{first_stands, none_stands}
 use Rattle.align.proofs.WhyLaws.{asked}
 use Rattle.read.specs.Entry as reads
-use Rattle.read.specs.Entry.{place_in, usedIn, unplaced}
+use Rattle.read.specs.Entry.{place_in, used_in, unplaced}
 use Rattle.read.proofs.EntryLaws as laws
 use Rattle.read.proofs.EntryLaws.{ready}
-use Rattle.chunk.specs.Taking.{lacksRoom}
-use Rattle.stream.specs.Entry.{isLarge, isFar, is_over, octetsCame, grownOf, feedRefusals, feedRefusal, endRefusals, endRefusal}
+use Rattle.chunk.specs.Taking.{lacks_room}
+use Rattle.stream.specs.Entry.{is_large, is_far, is_over, octets_came, grown_of, feed_refusals, feed_refusal, end_refusals, end_refusal}
 use Rattle.stream.specs.declared.Stream.{Stream}
 use Rattle.write.specs.Entry as writes
-use Rattle.write.specs.Entry.{overheadLimit, overheadFits, faults}
-use Rattle.write.proofs.Calls.{Fits, accepted-call}
+use Rattle.write.specs.Entry.{overhead_limit, overhead_fits, faults}
+use Rattle.write.proofs.Calls.{Fits, accepted_call}
 use Rattle.signals.specs.Entry as signals
-use Rattle.signals.specs.Entry.{slot16In, filled}
+use Rattle.signals.specs.Entry.{slot16_in, filled}
 use Rattle.signals.proofs.EntryLaws as heard
 use Rattle.signalled.specs.Entry as signalled
 use Rattle.signalled.specs.Given.{Given}
 use Rattle.signalled.proofs.Laws.{fits}
 use Rattle.signalled.proofs.Calls as signalling
 use Rattle.exchange.specs.declared.State.{State}
-use Rattle.exchange.specs.Mapping.{mapRefusal, mapRefusals}
-use Rattle.exchange.specs.Machine.{kind_of, aOf, bOf, outside, locked, unstaged, hostRefusal, keyRefusal, keyRefusals}
-use Rattle.exchange.proofs.Laws.{accepted-passed, kind-named, slot-named, entry_named, reads-alone, within}
+use Rattle.exchange.specs.Mapping.{map_refusal, map_refusals}
+use Rattle.exchange.specs.Machine.{kind_of, a_of, b_of, outside, locked, unstaged, host_refusal, key_refusal, key_refusals}
+use Rattle.exchange.proofs.Laws.{accepted_passed, kind_named, slot_named, entry_named, reads_alone, within}
 use Rattle.claims.proofs.T1Accepts as t1
 use Rattle.claims.specs.Accepts.{ToRead, Going, ToFeed, ToEnd, ToHear, ToAsk, ToWrite, ToSignal, ToHost, ToMap, Accepts}
 
 -- which lengths a payload may have
-sized-is : (l : ℕ) → sized l ≡ true ↔ (n : ℕ) × (1 ≤ n) × (n ≤ 16) × (l ≡ 496 * n)
+sized_is : (l : ℕ) → sized l ≡ true ↔ (n : ℕ) × (1 ≤ n) × (n ≤ 16) × (l ≡ 496 * n)
 unfolding sized
-sized-is l = (there, back)
+sized_is l = (there, back)
   where
     there : sized l ≡ true → (n : ℕ) × (1 ≤ n) × (n ≤ 16) × (l ≡ 496 * n)
     there e =
@@ -60,7 +60,7 @@ sized-is l = (there, back)
         rw (eq-eqb (l % 496) 0 (omega arith), le-leb 1 (l / 496) (omega arith), le-leb (l / 496) 16 (omega arith))
 
 read_is : (s : List ℕ) (a b : ℕ) → reads.refusal s a b ≡ 0 ↔ ToRead s a b
-read_is s a b = (there, λ t. back t (firstStanding s) refl)
+read_is s a b = (there, λ t. back t (first_standing s) refl)
   where
     there : reads.refusal s a b ≡ 0 → ToRead s a b
     there e =
@@ -74,11 +74,11 @@ read_is s a b = (there, λ t. back t (firstStanding s) refl)
           slot0 = d.slot0;
         }
 
-    back : ToRead s a b → (o : Option Standing) → firstStanding s ≡ o → reads.refusal s a b ≡ 0
+    back : ToRead s a b → (o : Option Standing) → first_standing s ≡ o → reads.refusal s a b ≡ 0
     back t (some w) e =
         laws.accepts s a b t.good w e
-        (rw (le-ltb a (496 * usedIn s) t.payload, le-ltb b (16 * usedIn s) t.slot0))
-    back t none e = absurd ((none-stands s).0 e t.p t.k t.stands)
+        (rw (le-ltb a (496 * used_in s) t.payload, le-ltb b (16 * used_in s) t.slot0))
+    back t none e = absurd ((none_stands s).0 e t.p t.k t.stands)
 
 -- a place stands where neither number of the search applies
 pub stood : (f : Found) → eqb (number_of f) 3 ≡ false → eqb (number_of f) 15 ≡ false → (p : ℕ) × (k : ℕ) × (f ≡ At p k)
@@ -91,11 +91,11 @@ module _ (st : Stream) where
   either : (a b : Bool) → a || b ≡ false → (a ≡ false) × (b ≡ false)
   either a b e = (or-eq-false-eq-eq-false-and-eq-false a b).0 e
 
-  near : (f : Found) → isFar f ≡ false ↔ ((placeOf f ≤ 134217728) × ((p k : ℕ) → f ≡ At p k → k ≤ 134217728))
-  unfolding isFar
+  near : (f : Found) → is_far f ≡ false ↔ ((place_of f ≤ 134217728) × ((p k : ℕ) → f ≡ At p k → k ≤ 134217728))
+  unfolding is_far
   near (At p k) = (
     λ e.
-        let h = either (isLarge p) (isLarge k) e in
+        let h = either (is_large p) (is_large k) e in
         (ltb-false 134217728 p h.0, λ q j d. let z : k ≡ j = cc in omega (arith, ltb-false 134217728 k h.1)),
     λ h. rw (le-ltb 134217728 p h.0, le-ltb 134217728 k (h.1 p k refl)),
   )
@@ -108,25 +108,25 @@ module _ (st : Stream) where
     λ h. refl,
   )
 
-  going-is : is_over st ≡ false ↔ Going st
+  going_is : is_over st ≡ false ↔ Going st
   unfolding is_over
-  going-is = (there, back)
+  going_is = (there, back)
     where
       there : is_over st ≡ false → Going st
       there e =
           let c = st.line in
-          let h₉ = either _ (isLarge c.wordbits) e in
-          let h₈ = either _ (isLarge c.farend) h₉.0 in
-          let h₇ = either _ (isLarge c.errored) h₈.0 in
-          let h₆ = either _ (isLarge c.words) h₇.0 in
-          let h₅ = either _ (isLarge c.lost) h₆.0 in
-          let h₄ = either _ (isLarge c.used) h₅.0 in
-          let h₃ = either _ (isLarge c.before) h₄.0 in
-          let h₂ = either _ (isFar c.found) h₃.0 in
+          let h₉ = either _ (is_large c.wordbits) e in
+          let h₈ = either _ (is_large c.farend) h₉.0 in
+          let h₇ = either _ (is_large c.errored) h₈.0 in
+          let h₆ = either _ (is_large c.words) h₇.0 in
+          let h₅ = either _ (is_large c.lost) h₆.0 in
+          let h₄ = either _ (is_large c.used) h₅.0 in
+          let h₃ = either _ (is_large c.before) h₄.0 in
+          let h₂ = either _ (is_far c.found) h₃.0 in
           let h₁ = either st.ended (ltb 2048 st.fill) h₂.0 in
           let f = (near c.found).0 h₂.1 in
           record {
-            not-ended = h₁.0;
+            not_ended = h₁.0;
             fill = ltb-false 2048 st.fill h₁.1;
             before = ltb-false 134217728 c.before h₃.1;
             place = f.0;
@@ -143,7 +143,7 @@ module _ (st : Stream) where
       back h =
           let c = st.line in
           rw (
-            h.not-ended,
+            h.not_ended,
             le-ltb 2048 st.fill h.fill,
             (near c.found).1 (h.place, h.k),
             le-ltb 134217728 c.before h.before,
@@ -155,77 +155,77 @@ module _ (st : Stream) where
             le-ltb 134217728 c.wordbits h.wordbits,
           )
 
-  feed-is : (window t : List ℕ) (a b : ℕ) → feedRefusal st window t a b ≡ 0 ↔ ToFeed st window t a b
-  unfolding feedRefusal lacksRoom
-  feed-is window t a b = (there, back)
+  feed_is : (window t : List ℕ) (a b : ℕ) → feed_refusal st window t a b ≡ 0 ↔ ToFeed st window t a b
+  unfolding feed_refusal lacks_room
+  feed_is window t a b = (there, back)
     where
       m : ℕ
-      m = (grownOf st window t).multiframes
+      m = (grown_of st window t).multiframes
 
-      there : feedRefusal st window t a b ≡ 0 → ToFeed st window t a b
+      there : feed_refusal st window t a b ≡ 0 → ToFeed st window t a b
       there e =
-          let d = rw e at (first-tells (feedRefusals st window t a b) refl) in
+          let d = rw e at (first_tells (feed_refusals st window t a b) refl) in
           let o = either (is_over st) (not (eqb (length window) 2048)) d.0 in
           let f = either (ltb a (496 * m)) (ltb b (16 * m)) d.1.1.0 in
           record {
-            going = going-is.0 o.0;
+            going = going_is.0 o.0;
             sized = eqb-true (length window) 2048 (not-false _ o.1);
-            limit = ltb-false 16777216 (octetsCame st + length t) d.1.0;
+            limit = ltb-false 16777216 (octets_came st + length t) d.1.0;
             payload = ltb-false a (496 * m) f.0;
             slot0 = ltb-false b (16 * m) f.1;
           }
 
-      back : ToFeed st window t a b → feedRefusal st window t a b ≡ 0
+      back : ToFeed st window t a b → feed_refusal st window t a b ≡ 0
       back h =
           rw (
-            going-is.1 h.going,
+            going_is.1 h.going,
             eq-eqb (length window) 2048 h.sized,
-            le-ltb 16777216 (octetsCame st + length t) h.limit,
+            le-ltb 16777216 (octets_came st + length t) h.limit,
             le-ltb a (496 * m) h.payload,
             le-ltb b (16 * m) h.slot0,
           )
 
-  end_is : endRefusal st ≡ 0 ↔ ToEnd st
-  unfolding endRefusal
+  end_is : end_refusal st ≡ 0 ↔ ToEnd st
+  unfolding end_refusal
   end_is = (there, back)
     where
-      there : endRefusal st ≡ 0 → ToEnd st
+      there : end_refusal st ≡ 0 → ToEnd st
       there e =
-          let d = rw e at (first-tells (endRefusals st) refl) in
+          let d = rw e at (first_tells (end_refusals st) refl) in
           let w = stood st.line.found d.1.1.0 d.1.1.1.0 in
           record {
-            going = going-is.0 d.0;
-            long = ltb-false (octetsCame st) 2048 d.1.0;
+            going = going_is.0 d.0;
+            long = ltb-false (octets_came st) 2048 d.1.0;
             p = w.0;
             k = w.1;
             stands = w.2;
           }
 
-      back : ToEnd st → endRefusal st ≡ 0
-      back h = rw (going-is.1 h.going, le-ltb (octetsCame st) 2048 h.long, h.stands)
+      back : ToEnd st → end_refusal st ≡ 0
+      back h = rw (going_is.1 h.going, le-ltb (octets_came st) 2048 h.long, h.stands)
 
-pub signals-is : (s : List ℕ) (a : ℕ) → signals.refusal s a ≡ 0 ↔ ToHear s a
+pub signals_is : (s : List ℕ) (a : ℕ) → signals.refusal s a ≡ 0 ↔ ToHear s a
 unfolding signals.refusal
-signals-is s a = (there, λ t. back t (firstStanding s) refl)
+signals_is s a = (there, λ t. back t (first_standing s) refl)
   where
     there : signals.refusal s a ≡ 0 → ToHear s a
     there e =
-        let t = rw e at (first-tells (signals.refusals s a) refl) in
+        let t = rw e at (first_tells (signals.refusals s a) refl) in
         let d = laws.placed s (tells_first 0 (unplaced s) refl (t.0, (t.1.0, (t.1.1.0, (t.1.1.1.0, tt))))) in
         record {
           good = d.0;
           p = d.1.place;
           k = d.1.k;
-          stands = ((first-stands s d.1.place d.1.k).0 d.2).stands;
-          room = ltb-false a (filled (slot16In s)) t.1.1.1.1.0;
+          stands = ((first_stands s d.1.place d.1.k).0 d.2).stands;
+          room = ltb-false a (filled (slot16_in s)) t.1.1.1.1.0;
         }
 
-    back : ToHear s a → (o : Option Standing) → firstStanding s ≡ o → signals.refusal s a ≡ 0
-    back t (some w) e = heard.placed-then s a (laws.placed-0 s t.good w e) false (le-ltb a (filled (slot16In s)) t.room)
-    back t none e = absurd ((none-stands s).0 e t.p t.k t.stands)
+    back : ToHear s a → (o : Option Standing) → first_standing s ≡ o → signals.refusal s a ≡ 0
+    back t (some w) e = heard.placed_then s a (laws.placed_0 s t.good w e) false (le-ltb a (filled (slot16_in s)) t.room)
+    back t none e = absurd ((none_stands s).0 e t.p t.k t.stands)
 
-pub why-is : (s : List ℕ) (p : ℕ) → whyRefusal s p ≡ 0 ↔ ToAsk s p
-why-is s p = (
+pub why_is : (s : List ℕ) (p : ℕ) → why_refusal s p ≡ 0 ↔ ToAsk s p
+why_is s p = (
   λ e. let a = (asked s p).0 e in record { good = record { long = a.0; short = a.1 }; room = a.2 },
   λ t. (asked s p).1 (t.good.long, t.good.short, t.room),
 )
@@ -236,29 +236,29 @@ to_write {p} d =
       n = multiframes p;
       least = d.least;
       most = d.most;
-      payload = d.inputs.payload-length;
-      overhead = d.inputs.overhead-length;
+      payload = d.inputs.payload_length;
+      overhead = d.inputs.overhead_length;
       limited = λ h l. d.inputs.limited h;
-      check = omega (arith, d.inputs.four-bits);
+      check = omega (arith, d.inputs.four_bits);
       room = d.room;
     }
 
-write-is : (p o : List ℕ) (c m : ℕ) → writes.refusal p o c m ≡ 0 ↔ ToWrite p o c m
-unfolding writes.refusal overheadFits
-write-is p o c m = (λ e. to_write (accepted-call p o c m e), back)
+write_is : (p o : List ℕ) (c m : ℕ) → writes.refusal p o c m ≡ 0 ↔ ToWrite p o c m
+unfolding writes.refusal overhead_fits
+write_is p o c m = (λ e. to_write (accepted_call p o c m e), back)
   where
     low : ℕ → Bool
-    low h = ltb (get_or o h 0) (overheadLimit h)
+    low h = ltb (get_or o h 0) (overhead_limit h)
 
     back : ToWrite p o c m → writes.refusal p o c m ≡ 0
     back t =
         let n : multiframes p ≡ t.n = omega (arith, t.payload) in
         rw (
-          (sized-is (length p)).1 (t.n, t.least, t.most, t.payload),
+          (sized_is (length p)).1 (t.n, t.least, t.most, t.payload),
           n,
           t.overhead,
           eq-eqb (8 * t.n) (8 * t.n) refl,
-          at_all (8 * t.n) low (λ h l. lt-ltb (get_or o h 0) (overheadLimit h) (t.limited h l)),
+          at_all (8 * t.n) low (λ h l. lt-ltb (get_or o h 0) (overhead_limit h) (t.limited h l)),
           le-ltb 15 c t.check,
           le-ltb m (512 * t.n) t.room,
         )
@@ -271,35 +271,35 @@ limited l n e h i =
       | no k ↦ rw (get_or-eq_default l 0 {n = i} (omega arith)) (omega arith)
     ]
 
-write-signalled-is : (p o : List ℕ) (c : ℕ) (xy v : List ℕ) (m : ℕ) → signalled.refusal p o c xy v m ≡ 0 ↔ ToSignal p o c xy v m
+write_signalled_is : (p o : List ℕ) (c : ℕ) (xy v : List ℕ) (m : ℕ) → signalled.refusal p o c xy v m ≡ 0 ↔ ToSignal p o c xy v m
 unfolding writes.refusal
-write-signalled-is p o c xy v m = (there, back)
+write_signalled_is p o c xy v m = (there, back)
   where
     there : signalled.refusal p o c xy v m ≡ 0 → ToSignal p o c xy v m
     there e =
-        let g = (signalling.accepted-call p o c xy v m e).0 in
+        let g = (signalling.accepted_call p o c xy v m e).0 in
         record {
-          written = to_write (signalling.accepted-fits p o c xy v m e);
-          xy-octets = g.its-xy.long;
-          xy-limited = λ i l. g.its-xy.most i;
-          abcd-octets = g.its-abcd.long;
-          abcd-limited = λ i l. (g.its-abcd.least i l, g.its-abcd.most i);
+          written = to_write (signalling.accepted_fits p o c xy v m e);
+          xy_octets = g.its_xy.long;
+          xy_limited = λ i l. g.its_xy.most i;
+          abcd_octets = g.its_abcd.long;
+          abcd_limited = λ i l. (g.its_abcd.least i l, g.its_abcd.most i);
         }
 
     back : ToSignal p o c xy v m → signalled.refusal p o c xy v m ≡ 0
     back t =
         let n = multiframes p in
-        let r = rw ((write-is p o c m).1 t.written) at (first-tells (writes.refusals p o c m) refl) in
+        let r = rw ((write_is p o c m).1 t.written) at (first_tells (writes.refusals p o c m) refl) in
         let g : Given xy v n =
         record {
-          its-xy = record { long = t.xy-octets; least = λ i l. omega arith; most = limited xy n t.xy-octets t.xy-limited };
-          its-abcd = record {
-            long = t.abcd-octets;
-            least = λ i l. (t.abcd-limited i l).0;
-            most = limited v (30 * n) t.abcd-octets (λ i l. (t.abcd-limited i l).1);
+          its_xy = record { long = t.xy_octets; least = λ i l. omega arith; most = limited xy n t.xy_octets t.xy_limited };
+          its_abcd = record {
+            long = t.abcd_octets;
+            least = λ i l. (t.abcd_limited i l).0;
+            most = limited v (30 * n) t.abcd_octets (λ i l. (t.abcd_limited i l).1);
           };
         } in
-        sym (signalling.no-fault p o c xy v m (tells_first 0 (faults p o c) refl (r.0, (r.1.0, (r.1.1.0, tt)))) false false
+        sym (signalling.no_fault p o c xy v m (tells_first 0 (faults p o c) refl (r.0, (r.1.0, (r.1.1.0, tt)))) false false
         (ap not (fits xy v n g)) r.1.1.1.0)
 
 -- the tests of a record, kind by kind
@@ -317,18 +317,18 @@ module _ (a b : ℕ) (flag staging : Bool) where
   passes (suc (suc (suc (suc zero)))) l m s e u g = rw (u (λ q. omega arith), g (inr refl)) (refl, refl, refl)
   passes (suc (suc (suc (suc (suc k))))) l m s e u g = absurd (omega arith)
 
-host-is : (s : State) (r : List ℕ) → hostRefusal s r ≡ 0 ↔ ToHost s r
-unfolding hostRefusal unstaged
-host-is s r = (there, back)
+host_is : (s : State) (r : List ℕ) → host_refusal s r ≡ 0 ↔ ToHost s r
+unfolding host_refusal unstaged
+host_is s r = (there, back)
   where
-    there : hostRefusal s r ≡ 0 → ToHost s r
+    there : host_refusal s r ≡ 0 → ToHost s r
     there e =
-        let d = accepted-passed s r e in
+        let d = accepted_passed s r e in
         record {
           four = d.four;
-          least = (kind-named s r e).0;
-          most = (kind-named s r e).1;
-          slot = λ k. slot-named s r e (elim k [ inl q ↦ rw q | inr q ↦ rw q ]);
+          least = (kind_named s r e).0;
+          most = (kind_named s r e).1;
+          slot = λ k. slot_named s r e (elim k [ inl q ↦ rw q | inr q ↦ rw q ]);
           entry = entry_named s r e;
           unlocked = on s.flag refl;
           staged = λ k. not-false s.staging (elim k [ inl q ↦ rw q at d.ready | inr q ↦ rw q at d.ready ]);
@@ -336,18 +336,18 @@ host-is s r = (there, back)
       where
         on : (t : Bool) → s.flag ≡ t → (kind_of r ≡ 3 → ⊥) → t ≡ true
         on true f h = refl
-        on false f h = absurd (h (reads-alone s r f e))
+        on false f h = absurd (h (reads_alone s r f e))
 
-    back : ToHost s r → hostRefusal s r ≡ 0
+    back : ToHost s r → host_refusal s r ≡ 0
     back t =
-        let tests = passes (aOf r) (bOf r) s.flag s.staging (kind_of r) t.least t.most in
+        let tests = passes (a_of r) (b_of r) s.flag s.staging (kind_of r) t.least t.most in
         let w = tests t.slot t.entry t.unlocked t.staged in
         rw (t.four, (within 1 (kind_of r) 4).1 (t.least, t.most), w.0, w.1, w.2)
 
-key-is : (position : ℕ) → keyRefusal position ≡ 0 ↔ (position ≡ 0) ⊎ (position ≡ 1)
-unfolding keyRefusal
-key-is position = (
-  λ e. which (eqb position 0) refl (not-false _ (rw e at (first-tells (keyRefusals position) refl)).0),
+key_is : (position : ℕ) → key_refusal position ≡ 0 ↔ (position ≡ 0) ⊎ (position ≡ 1)
+unfolding key_refusal
+key_is position = (
+  λ e. which (eqb position 0) refl (not-false _ (rw e at (first_tells (key_refusals position) refl)).0),
   λ k. elim k [ inl q ↦ rw q | inr q ↦ rw q ],
 )
   where
@@ -355,14 +355,14 @@ key-is position = (
     which true p q = inl (eqb-true position 0 p)
     which false p q = inr (eqb-true position 1 q)
 
-map_is : (payload out : List ℕ) → mapRefusal payload out ≡ 0 ↔ ToMap payload out
-unfolding mapRefusal
+map_is : (payload out : List ℕ) → map_refusal payload out ≡ 0 ↔ ToMap payload out
+unfolding map_refusal
 map_is payload out = (there, back)
   where
-    there : mapRefusal payload out ≡ 0 → ToMap payload out
+    there : map_refusal payload out ≡ 0 → ToMap payload out
     there e =
-        let t = rw e at (first-tells (mapRefusals payload out) refl) in
-        let w = (sized-is (length payload)).0 (not-false _ t.0) in
+        let t = rw e at (first_tells (map_refusals payload out) refl) in
+        let w = (sized_is (length payload)).0 (not-false _ t.0) in
         record {
           n = w.0;
           least = w.1;
@@ -371,10 +371,10 @@ map_is payload out = (there, back)
           room = ltb-false (length out) (length payload) t.1.0;
         }
 
-    back : ToMap payload out → mapRefusal payload out ≡ 0
+    back : ToMap payload out → map_refusal payload out ≡ 0
     back t =
         rw (
-          (sized-is (length payload)).1 (t.n, t.least, t.most, t.sized),
+          (sized_is (length payload)).1 (t.n, t.least, t.most, t.sized),
           le-ltb (length out) (length payload) t.room,
         )
 
@@ -382,16 +382,16 @@ pub accepts : Accepts
 accepts =
     record {
       read = read_is;
-      feed = feed-is;
+      feed = feed_is;
       end = end_is;
-      signals = signals-is;
-      why = why-is;
-      write = write-is;
-      write-signalled = write-signalled-is;
-      host = host-is;
-      key = key-is;
+      signals = signals_is;
+      why = why_is;
+      write = write_is;
+      write_signalled = write_signalled_is;
+      host = host_is;
+      key = key_is;
       map = map_is;
-      t1-read = t1.read_is;
-      t1-write = t1.write-is;
-      t1-write-signalled = λ p l c g m. t1.signal-is p l c m g;
+      t1_read = t1.read_is;
+      t1_write = t1.write_is;
+      t1_write_signalled = λ p l c g m. t1.signal_is p l c m g;
     }

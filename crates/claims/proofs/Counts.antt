@@ -11,19 +11,19 @@ use borrow.Author.Tests.{lt-ltb, le-ltb, eqb-true, eq-eqb, ne_eqb}
 use lib.Dec.{eqb, ltb}
 use Rattle.base.specs.Choice.{if◌then◌else◌}
 use Rattle.base.specs.Tab.{sum, count}
-use Rattle.base.proofs.TabLaws.{sum-pairs}
+use Rattle.base.proofs.TabLaws.{sum_pairs}
 use Rattle.line.specs.Bit.{bit_at}
-use Rattle.line.proofs.BitLaws.{bit-lt}
+use Rattle.line.proofs.BitLaws.{bit_lt}
 use Rattle.crc.proofs.Laws.{same}
 use Rattle.e1.specs.Frame.{frame_at}
 use Rattle.e1.specs.Block.{agrees}
-use Rattle.read.specs.Entry.{accept, start_in, usedIn, Read}
-use Rattle.measure.specs.Reading.{wrong, wordErrors, wordBits, compared, agreesIn, errored, zerosE, farEnd}
+use Rattle.read.specs.Entry.{accept, start_in, used_in, Read}
+use Rattle.measure.specs.Reading.{wrong, word_errors, word_bits, compared, agrees_in, errored, zeros_e, far_end}
 use Rattle.read.specs.declared.Reading.{Reading}
 use Rattle.measure.proofs.LossLaws.{wrong_word}
-use Rattle.read.proofs.EntryLaws.{read-accepted, read-either}
-use Rattle.claims.specs.Counts.{Counted, Agrees, WrongWord, WrongBit, bitEAt, FarError, Counts}
-use Rattle.claims.proofs.WordBits.{wrongIn, bits-counted, bits-least, bits_most, one-more-bit}
+use Rattle.read.proofs.EntryLaws.{read_accepted, read_either}
+use Rattle.claims.specs.Counts.{Counted, Agrees, WrongWord, WrongBit, bit_e_at, FarError, Counts}
+use Rattle.claims.proofs.WordBits.{wrong_in, bits_counted, bits_least, bits_most, one_more_bit}
 
 -- What is counted
 
@@ -116,79 +116,79 @@ is_zero (suc zero) h = refl
 is_zero (suc (suc x)) h = absurd (omega arith)
 
 module _ (s : List ℕ) (q g : ℕ) where
-  wrong-words : Counted (8 * g) (wordErrors s q g) (WrongWord s q)
-  unfolding wordErrors
-  wrong-words = named (counted (8 * g) (wrong s q)) (wrong_word s q)
+  wrong_words : Counted (8 * g) (word_errors s q g) (WrongWord s q)
+  unfolding word_errors
+  wrong_words = named (counted (8 * g) (wrong s q)) (wrong_word s q)
 
-  wrong-bits : Counted (7 * (8 * g)) (wordBits s q g) (λ b. WrongBit s q (b / 7) (b % 7))
-  wrong-bits =
-      rw (bits-counted s q g)
-      (named (counted (7 * (8 * g)) (λ b. wrongIn s q (b / 7) (b % 7))) (λ b. not_equal _ _))
+  wrong_bits_lem : Counted (7 * (8 * g)) (word_bits s q g) (λ b. WrongBit s q (b / 7) (b % 7))
+  wrong_bits_lem =
+      rw (bits_counted s q g)
+      (named (counted (7 * (8 * g)) (λ b. wrong_in s q (b / 7) (b % 7))) (λ b. not_equal _ _))
 
   differing : Counted (compared g) (errored s q g) (λ b. Agrees s q b → ⊥)
   unfolding errored agrees
-  differing = named (counted (compared g) (λ b. not (agreesIn s q b))) (λ b. not_equal _ _)
+  differing = named (counted (compared g) (λ b. not (agrees_in s q b))) (λ b. not_equal _ _)
 
-  pub none-differs : errored s q g ≡ 0 ↔ ((b : ℕ) → b + 1 < 2 * g → Agrees s q b)
-  none-differs = (
+  pub none_differs : errored s q g ≡ 0 ↔ ((b : ℕ) → b + 1 < 2 * g → Agrees s q b)
+  none_differs = (
     λ e b h. same _ _ ((none_has differing).0 e b (omega arith)),
     λ a. (none_has differing).1 (λ b h n. n (a b (omega arith))),
   )
 
   -- E bit e is 0
-  abbrev zeroE : ℕ → Bool
-  zeroE e = eqb (bit_at s (bitEAt q e)) 0
+  abbrev zero_e : ℕ → Bool
+  zero_e e = eqb (bit_at s (bit_e_at q e)) 0
 
-  far-error : (e : ℕ) → zeroE e ≡ true ↔ FarError s q e
-  far-error e = (eqb-true (bit_at s (bitEAt q e)) 0, eq-eqb (bit_at s (bitEAt q e)) 0)
+  far_error : (e : ℕ) → zero_e e ≡ true ↔ FarError s q e
+  far_error e = (eqb-true (bit_at s (bit_e_at q e)) 0, eq-eqb (bit_at s (bit_e_at q e)) 0)
 
   -- those of one multiframe
-  two-zeros : (m : ℕ) → zerosE s q m ≡ cond (zeroE (2 * m)) 1 0 + cond (zeroE (2 * m + 1)) 1 0
-  two-zeros m =
-      let a : bitEAt q (2 * m) ≡ frame_at q (16 * m + 13) = omega arith in
-      let b : bitEAt q (2 * m + 1) ≡ frame_at q (16 * m + 15) = omega arith in
-      rw (a, b) (ap₂ (λ x y. x + y) (is_zero _ (bit-lt s _)) (is_zero _ (bit-lt s _)))
+  two_zeros : (m : ℕ) → zeros_e s q m ≡ cond (zero_e (2 * m)) 1 0 + cond (zero_e (2 * m + 1)) 1 0
+  two_zeros m =
+      let a : bit_e_at q (2 * m) ≡ frame_at q (16 * m + 13) = omega arith in
+      let b : bit_e_at q (2 * m + 1) ≡ frame_at q (16 * m + 15) = omega arith in
+      rw (a, b) (ap₂ (λ x y. x + y) (is_zero _ (bit_lt s _)) (is_zero _ (bit_lt s _)))
 
-  far-errors : Counted (2 * g) (farEnd s q g) (FarError s q)
-  unfolding farEnd
-  far-errors =
-      rw (sum-pairs g (zerosE s q) (λ e. cond (zeroE e) 1 0) two-zeros)
-      (named (counted (2 * g) zeroE) far-error)
+  far_errors : Counted (2 * g) (far_end s q g) (FarError s q)
+  unfolding far_end
+  far_errors =
+      rw (sum_pairs g (zeros_e s q) (λ e. cond (zero_e e) 1 0) two_zeros)
+      (named (counted (2 * g) zero_e) far_error)
 
 -- the words and their bits, of any answer
 module _ (s payload slot0 : List ℕ) where
-  least-bits : (r : Reading) (p o : List ℕ) → Read s payload slot0 r p o → r.words ≤ r.wordbits
+  least_bits : (r : Reading) (p o : List ℕ) → Read s payload slot0 r p o → r.words ≤ r.wordbits
   unfolding accept
-  least-bits =
-      read-either s payload slot0 (λ r. r.words ≤ r.wordbits) (bits-least s (start_in s) (usedIn s)) (λ n. omega arith)
+  least_bits =
+      read_either s payload slot0 (λ r. r.words ≤ r.wordbits) (bits_least s (start_in s) (used_in s)) (λ n. omega arith)
 
-  most-bits : (r : Reading) (p o : List ℕ) → Read s payload slot0 r p o → r.wordbits ≤ 7 * r.words
+  most_bits : (r : Reading) (p o : List ℕ) → Read s payload slot0 r p o → r.wordbits ≤ 7 * r.words
   unfolding accept
-  most-bits =
-      read-either s payload slot0 (λ r. r.wordbits ≤ 7 * r.words) (bits_most s (start_in s) (usedIn s)) (λ n. omega arith)
+  most_bits =
+      read_either s payload slot0 (λ r. r.wordbits ≤ 7 * r.words) (bits_most s (start_in s) (used_in s)) (λ n. omega arith)
 
 bits_of : (s payload slot0 : List ℕ) (r : Reading) (p o : List ℕ) → Read s payload slot0 r p o → r.number ≡ 0
-    → r.wordbits ≡ wordBits s r.start r.used
+    → r.wordbits ≡ word_bits s r.start r.used
 unfolding accept
-bits_of s a b r p o h z = rw (read-accepted s a b r p o h z) refl
+bits_of s a b r p o h z = rw (read_accepted s a b r p o h z) refl
 
 pub counts : Counts
 unfolding accept
 counts =
     record {
-      words = λ s a b r p o h z. rw (read-accepted s a b r p o h z) (wrong-words s (start_in s) (usedIn s));
+      words = λ s a b r p o h z. rw (read_accepted s a b r p o h z) (wrong_words s (start_in s) (used_in s));
       wrong_word = wrong_word;
-      wordbits = λ s a b r p o h z. rw (read-accepted s a b r p o h z) (wrong-bits s (start_in s) (usedIn s));
-      least-bits = least-bits;
-      most-bits = most-bits;
+      wordbits = λ s a b r p o h z. rw (read_accepted s a b r p o h z) (wrong_bits_lem s (start_in s) (used_in s));
+      least_bits = least_bits;
+      most_bits = most_bits;
       no_bits = λ s a b r p o h.
-          let l = least-bits s a b r p o h in
-          let m = most-bits s a b r p o h in
+          let l = least_bits s a b r p o h in
+          let m = most_bits s a b r p o h in
           (λ e. omega arith, λ e. omega arith);
       one_hit = λ s a b r p o h z t a' b' r' p' o' h' z' same_start same-used i j l hit.
-          bits_of t a' b' r' p' o' h' z' ∙ ap₂ (wordBits t) same_start same-used
-          ∙ one-more-bit hit r.used l ∙ ap (λ x. x + 1) (sym (bits_of s a b r p o h z));
-      errored = λ s a b r p o h z. rw (read-accepted s a b r p o h z) (differing s (start_in s) (usedIn s));
-      farend = λ s a b r p o h z. rw (read-accepted s a b r p o h z) (far-errors s (start_in s) (usedIn s));
-      none-errored = λ s a b r p o h z. rw (read-accepted s a b r p o h z) (none-differs s (start_in s) (usedIn s));
+          bits_of t a' b' r' p' o' h' z' ∙ ap₂ (word_bits t) same_start same-used
+          ∙ one_more_bit hit r.used l ∙ ap (λ x. x + 1) (sym (bits_of s a b r p o h z));
+      errored = λ s a b r p o h z. rw (read_accepted s a b r p o h z) (differing s (start_in s) (used_in s));
+      farend = λ s a b r p o h z. rw (read_accepted s a b r p o h z) (far_errors s (start_in s) (used_in s));
+      none_errored = λ s a b r p o h z. rw (read_accepted s a b r p o h z) (none_differs s (start_in s) (used_in s));
     }

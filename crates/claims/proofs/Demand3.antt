@@ -11,20 +11,20 @@ use borrow.Author.Tests.{eqb-true, leb-true, ltb-true, eq-eqb, ne_eqb}
 use lib.Dec.{eqb, leb, ltb, lit≤}
 use lib.ListN.{length, get_or, get_or-eq_default}
 use Rattle.base.specs.Choice.{if◌then◌else◌}
-use Rattle.base.specs.Tab.{all, tabFrom}
-use Rattle.base.proofs.TabLaws.{length-tab, getD-tab, all-at}
+use Rattle.base.specs.Tab.{all, tab_from}
+use Rattle.base.proofs.TabLaws.{length_tab, get_d_tab, all_at}
 use Rattle.line.specs.Bit.{bit_at}
-use Rattle.line.proofs.BitLaws.{bit-lt}
+use Rattle.line.proofs.BitLaws.{bit_lt}
 use Rattle.line.specs.Spelt.{spelt}
-use Rattle.line.proofs.SpeltLaws.{spelt-same}
-use Rattle.crc.specs.Striped.{readAs, striped}
-use Rattle.crc.proofs.StripedLaws.{striped-data}
+use Rattle.line.proofs.SpeltLaws.{spelt_same}
+use Rattle.crc.specs.Striped.{read_as, striped}
+use Rattle.crc.proofs.StripedLaws.{striped_data}
 use Rattle.crc.specs.Remainder.{step, after, check}
 use Rattle.e1.specs.Block.{block_bits, block_check, carried}
 use Rattle.claims.proofs.Seam.{seen}
 use Rattle.claims.proofs.Counts.{counts}
 use Rattle.claims.specs.Demand3.{Agreeing, Aligned, CheckOfFirst, DataOfLast, Demand3, OnlyWithin, ReadClean}
-use Rattle.claims.specs.Demand3.{Unseen, zerosBut}
+use Rattle.claims.specs.Demand3.{Unseen, zeros_but}
 
 pub zero_bit : (m : ℕ) → 0 / m % 2 ≡ 0
 zero_bit m = ap (λ x. x % 2) (zero-div m)
@@ -37,15 +37,15 @@ past s p n l h =
 
 module _ (s t : List ℕ) where
   -- where the check carried is the same, so is each of its bits
-  bits-of-carried : (q j : ℕ) → j < 4 → carried s q ≡ carried t q → bit_at s (q + 512 * j) ≡ bit_at t (q + 512 * j)
+  bits_of_carried : (q j : ℕ) → j < 4 → carried s q ≡ carried t q → bit_at s (q + 512 * j) ≡ bit_at t (q + 512 * j)
   unfolding carried
-  bits-of-carried q j h e =
-      spelt-same 4 (λ i. bit_at s (q + 512 * i)) (λ i. bit_at t (q + 512 * i))
-      (λ i. bit-lt s (q + 512 * i)) (λ i. bit-lt t (q + 512 * i)) e j h
+  bits_of_carried q j h e =
+      spelt_same 4 (λ i. bit_at s (q + 512 * i)) (λ i. bit_at t (q + 512 * i))
+      (λ i. bit_lt s (q + 512 * i)) (λ i. bit_lt t (q + 512 * i)) e j h
 
   -- where the block is the same, so is each of its data bits
-  bits-of-block : (q i : ℕ) → i < 2048 → i % 512 ≢ 0 → block_bits s q ≡ block_bits t q → bit_at s (q + i) ≡ bit_at t (q + i)
-  bits-of-block q i h z e = striped-data 512 0 2048 (λ i. bit_at s (q + i)) (λ i. bit_at t (q + i)) e i h z
+  bits_of_block : (q i : ℕ) → i < 2048 → i % 512 ≢ 0 → block_bits s q ≡ block_bits t q → bit_at s (q + i) ≡ bit_at t (q + i)
+  bits_of_block q i h z e = striped_data 512 0 2048 (λ i. bit_at s (q + i)) (λ i. bit_at t (q + i)) e i h z
 
 burst : (n : ℕ) (s t : List ℕ) → Aligned s n → Aligned t n → Agreeing s n → Agreeing t n
     → (a : ℕ) → OnlyWithin 4 a s t → (p : ℕ) → bit_at s p ≢ bit_at t p → CheckOfFirst p ⊎ DataOfLast n p
@@ -60,14 +60,14 @@ burst n s t whole-s whole-t agree-s agree-t a only p ne = go (dec_lt p (4096 * n
         let q : ℕ = 2048 * (b - 1) in
         let e : q + 2048 + 512 * (p % 2048 / 512) ≡ p = omega arith in
         let c = (seen s t q a only (agree-s (b - 1) (omega arith)) (agree-t (b - 1) (omega arith))).1 in
-        rw e at (bits-of-carried s t (q + 2048) (p % 2048 / 512) (omega arith) c)
+        rw e at (bits_of_carried s t (q + 2048) (p % 2048 / 512) (omega arith) c)
 
     -- a data bit of a block before the last
     sooner : b + 1 < 2 * n → p % 512 ≢ 0 → bit_at s p ≡ bit_at t p
     sooner h z =
         let e : 2048 * b + p % 2048 ≡ p = omega arith in
         let c = (seen s t (2048 * b) a only (agree-s b h) (agree-t b h)).0 in
-        rw e at (bits-of-block s t (2048 * b) (p % 2048) (omega arith) (λ w. z (omega arith)) c)
+        rw e at (bits_of_block s t (2048 * b) (p % 2048) (omega arith) (λ w. z (omega arith)) c)
 
     go : Dec (p < 4096 * n) → Dec (p % 512 ≡ 0) → CheckOfFirst p ⊎ DataOfLast n p
     go (no h) z =
@@ -81,37 +81,37 @@ burst n s t whole-s whole-t agree-s agree-t a only p ne = go (dec_lt p (4096 * n
 -- an image without an errored block agrees
 agreeing : (s : List ℕ) (n : ℕ) → ReadClean s n → Agreeing s n
 agreeing s n c b h =
-    let agrees = (counts.none-errored s _ _ c.r _ _ c.reads c.number).0 c.errored in
+    let agrees = (counts.none_errored s _ _ c.r _ _ c.reads c.number).0 c.errored in
     rw (c.start, zero-add) at (agrees b (omega arith))
 
 -- What goes unseen
 
-first-agrees : (s : List ℕ) → block_check s 0 ≡ carried s 2048 → Agreeing s 1
-first-agrees s e zero h = e
-first-agrees s e (suc b) h = absurd (omega arith)
+first_agrees : (s : List ℕ) → block_check s 0 ≡ carried s 2048 → Agreeing s 1
+first_agrees s e zero h = e
+first_agrees s e (suc b) h = absurd (omega arith)
 
-zerosBut-length : (i x : ℕ) → length (zerosBut i x) ≡ 512
-zerosBut-length i x = length-tab 512 (λ j. if eqb j i then x else 0)
+zeros_but_length : (i x : ℕ) → length (zeros_but i x) ≡ 512
+zeros_but_length i x = length_tab 512 (λ j. if eqb j i then x else 0)
 
 -- the bits that are 0
-zerosBut-bit : (i x p : ℕ) → (p / 8 ≡ i → x / 2 ^ (7 - p % 8) % 2 ≡ 0) → bit_at (zerosBut i x) p ≡ 0
+zeros_but_bit : (i x p : ℕ) → (p / 8 ≡ i → x / 2 ^ (7 - p % 8) % 2 ≡ 0) → bit_at (zeros_but i x) p ≡ 0
 unfolding bit_at
-zerosBut-bit i x p z = go (dec_lt p 4096) (ℕ_discrete (p / 8) i)
+zeros_but_bit i x p z = go (dec_lt p 4096) (ℕ_discrete (p / 8) i)
   where
-    at : p < 4096 → get_or (zerosBut i x) (p / 8) 0 ≡ (if eqb (p / 8) i then x else 0)
-    at h = getD-tab 512 (λ j. if eqb j i then x else 0) (p / 8) 0 (omega arith)
+    at : p < 4096 → get_or (zeros_but i x) (p / 8) 0 ≡ (if eqb (p / 8) i then x else 0)
+    at h = get_d_tab 512 (λ j. if eqb j i then x else 0) (p / 8) 0 (omega arith)
 
-    go : Dec (p < 4096) → Dec (p / 8 ≡ i) → bit_at (zerosBut i x) p ≡ 0
-    go (no h) d = past (zerosBut i x) p 512 (zerosBut-length i x) (omega arith)
+    go : Dec (p < 4096) → Dec (p / 8 ≡ i) → bit_at (zeros_but i x) p ≡ 0
+    go (no h) d = past (zeros_but i x) p 512 (zeros_but_length i x) (omega arith)
     go (yes h) (yes e) = rw (at h, eq-eqb (p / 8) i e) (z e)
     go (yes h) (no e) = rw (at h, ne_eqb (p / 8) i e) (zero_bit (2 ^ (7 - p % 8)))
 
-zeros-bit : (p : ℕ) → bit_at (zerosBut 0 0) p ≡ 0
-zeros-bit p = zerosBut-bit 0 0 p (λ e. zero_bit (2 ^ (7 - p % 8)))
+zeros_bit : (p : ℕ) → bit_at (zeros_but 0 0) p ≡ 0
+zeros_bit p = zeros_but_bit 0 0 p (λ e. zero_bit (2 ^ (7 - p % 8)))
 
-zeros-agree : Agreeing (zerosBut 0 0) 1
-unfolding block_check striped readAs carried spelt check after step bit_at tabFrom
-zeros-agree = first-agrees (zerosBut 0 0) refl
+zeros_agree : Agreeing (zeros_but 0 0) 1
+unfolding block_check striped read_as carried spelt check after step bit_at tab_from
+zeros_agree = first_agrees (zeros_but 0 0) refl
 
 module _ (w a i x : ℕ) where
   inside : ℕ → Bool
@@ -121,38 +121,38 @@ module _ (w a i x : ℕ) where
   fits : ℕ → Bool
   fits r = inside (8 * i + r) || eqb (x / 2 ^ (7 - r) % 2) 0
 
-  within : all 8 fits ≡ true → OnlyWithin w a (zerosBut 0 0) (zerosBut i x)
+  within : all 8 fits ≡ true → OnlyWithin w a (zeros_but 0 0) (zeros_but i x)
   unfolding inside fits
   within t p ne = go (inside p) refl
     where
       bit : inside p ≡ false → p / 8 ≡ i → x / 2 ^ (7 - p % 8) % 2 ≡ 0
       bit e k =
           let d : 8 * i + p % 8 ≡ p = omega arith in
-          eqb-true _ _ (rw (d, e) at (all-at 8 fits t (p % 8) (omega arith)))
+          eqb-true _ _ (rw (d, e) at (all_at 8 fits t (p % 8) (omega arith)))
 
       go : (b : Bool) → inside p ≡ b → (a ≤ p) × (p < a + w)
       go true e = let (l, h) = (and-eq-true_iff (leb a p) (ltb p (a + w))).0 e in (leb-true a p l, ltb-true p (a + w) h)
-      go false e = absurd (ne (zeros-bit p ∙ sym (zerosBut-bit i x p (bit e))))
+      go false e = absurd (ne (zeros_bit p ∙ sym (zeros_but_bit i x p (bit e))))
 
-  unseen : all 8 fits ≡ true → block_check (zerosBut i x) 0 ≡ carried (zerosBut i x) 2048 → bit_at (zerosBut i x) a ≡ 1
-      → Unseen w a (zerosBut 0 0) (zerosBut i x) a
+  unseen : all 8 fits ≡ true → block_check (zeros_but i x) 0 ≡ carried (zeros_but i x) 2048 → bit_at (zeros_but i x) a ≡ 1
+      → Unseen w a (zeros_but 0 0) (zeros_but i x) a
   unseen t e o =
       record {
-        s-aligned = record { some = lit≤ tt; whole = zerosBut-length 0 0 };
-        t-aligned = record { some = lit≤ tt; whole = zerosBut-length i x };
-        s-agrees = zeros-agree;
-        t-agrees = first-agrees (zerosBut i x) e;
+        s_aligned = record { some = lit≤ tt; whole = zeros_but_length 0 0 };
+        t_aligned = record { some = lit≤ tt; whole = zeros_but_length i x };
+        s_agrees = zeros_agree;
+        t_agrees = first_agrees (zeros_but i x) e;
         only = within t;
-        differs = λ d. omega (arith, zeros-bit a);
+        differs = λ d. omega (arith, zeros_bit a);
       }
 
-pub demand-3 : Demand3
-unfolding block_check striped readAs carried spelt check after step bit_at tabFrom all inside fits
-demand-3 =
+pub demand_3 : Demand3
+unfolding block_check striped read_as carried spelt check after step bit_at tab_from all inside fits
+demand_3 =
     record {
       burst = burst;
       read = λ n s t u v c d. burst n s t u v (agreeing s n c) (agreeing t n d);
-      check-bit = unseen 4 0 0 128 refl refl refl;
-      data-bit = unseen 4 4095 511 1 refl refl refl;
-      five-can-hide = unseen 5 2043 255 19 refl refl refl;
+      at_check_bit = unseen 4 0 0 128 refl refl refl;
+      at_data_bit = unseen 4 4095 511 1 refl refl refl;
+      five_can_hide = unseen 5 2043 255 19 refl refl refl;
     }

@@ -5,35 +5,35 @@ use mathlib.Core.List.{List}
 use mathlib.Core.Logic.{◌↔◌, ◌⊎◌}
 use lib.ListN.{length}
 use Rattle.align.specs.Stands.{Basic, Pair, Stands}
-use Rattle.align.specs.Why.{why, whyNumber}
+use Rattle.align.specs.Why.{why, why_number}
 use Rattle.align.specs.Says.{Says}
 use Rattle.align.specs.declared.Why.{Why}
 use Rattle.align.specs.declared.Why.TheVariants.{NoneFails, NoPair}
-use Rattle.align.proofs.Laws.{some-k, finds-basic, finds-nothing}
-use Rattle.align.proofs.WhyLaws.{asked, why-number, why-says, why-stands, why-short, why-long, why-late}
+use Rattle.align.proofs.Laws.{some_k, finds_basic, finds_nothing}
+use Rattle.align.proofs.WhyLaws.{asked, why_answers, why_says, why_stands, why_short, why_long, why_late}
 use Rattle.read.specs.Entry.{Read, GoodLength}
 use Rattle.read.specs.declared.Reading.{Reading}
-use Rattle.read.proofs.EntryLaws.{read_number, read-place, ready}
+use Rattle.read.proofs.EntryLaws.{read_number, read_place, ready}
 use Rattle.claims.specs.Accepts.{ToAsk}
 use Rattle.claims.specs.Reasons.{FirstSaid, Reasons}
-use Rattle.claims.proofs.Accepts.{why-is}
-use Rattle.claims.proofs.Demand2.{found_none, found-only, none_so}
+use Rattle.claims.proofs.Accepts.{why_is}
+use Rattle.claims.proofs.Demand2.{found_none, found_only, none_so}
 
 says : (s : List ℕ) (p : ℕ) (w : Why) → ToAsk s p → why s p ≡ w ↔ Says s p w
-says s p w t = why-says s p ((why-is s p).1 t) w
+says s p w t = why_says s p ((why_is s p).1 t) w
 
 stands : (s : List ℕ) (p k : ℕ) → GoodLength s → why s p ≡ NoneFails k ↔ Stands s p k
-stands s p k good = why-stands s p good.long good.short k
+stands s p k good = why_stands s p good.long good.short k
 
 first : (s payload slot0 : List ℕ) (r : Reading) (payload' slot0' : List ℕ)
     → Read s payload slot0 r payload' slot0' → r.number ≡ 0 → FirstSaid s r.place r.start
 first s payload slot0 r payload' slot0' h z =
     let d = ready s (length payload) (length slot0) (sym (read_number s payload slot0 r payload' slot0' h) ∙ z) in
-    let f = read-place s payload slot0 r payload' slot0' h z in
+    let f = read_place s payload slot0 r payload' slot0' h z in
     record {
       k = f.0;
       here = (stands s r.place f.0 d.good).1 f.1.stands;
-      start-there = f.2;
+      start_there = f.2;
       before = λ q l b e. f.1.before q l b ((stands s q l d.good).0 e);
     }
 
@@ -45,44 +45,44 @@ nowhere s payload slot0 r payload' slot0' good h =
     (λ e p k w. n.0 e p k ((stands s p k good).0 w), λ g. n.1 (λ p k w. g p k ((stands s p k good).1 w)))
 
 -- of a place it is said that it has no pair exactly when it has room, basic alignment and none
-no-pair-said : (s : List ℕ) (p : ℕ) → why s p ≡ NoPair → (p + 16384 ≤ 8 * length s) × Basic s p
+no_pair_said : (s : List ℕ) (p : ℕ) → why s p ≡ NoPair → (p + 16384 ≤ 8 * length s) × Basic s p
 unfolding Says
-no-pair-said s p e =
-    let n = sym (why-number s p) ∙ ap whyNumber e in
-    (((asked s p).0 n).2, ((why-says s p n NoPair).0 e).0)
+no_pair_said s p e =
+    let n = sym (why_answers s p) ∙ ap why_number e in
+    (((asked s p).0 n).2, ((why_says s p n NoPair).0 e).0)
 
-no-pair : (s payload slot0 : List ℕ) (r : Reading) (payload' slot0' : List ℕ)
+no_pair : (s payload slot0 : List ℕ) (r : Reading) (payload' slot0' : List ℕ)
     → Read s payload slot0 r payload' slot0' → r.number ≡ 15
     → (why s r.place ≡ NoPair) × ((q : ℕ) → q < r.place → why s q ≡ NoPair → ⊥)
 unfolding Says
-no-pair s payload slot0 r payload' slot0' h e =
-    let f = found-only s payload slot0 r payload' slot0' h e in
-    let b = (finds-basic s r.place).0 f.1 in
+no_pair s payload slot0 r payload' slot0' h e =
+    let f = found_only s payload slot0 r payload' slot0' h e in
+    let b = (finds_basic s r.place).0 f.1 in
     let t : ToAsk s r.place = record { good = f.0; room = b.0.room } in
     let none : (k : ℕ) → Pair s r.place k → ⊥
-    = λ k p. let w = some-k s r.place k b.0.room b.0.basic p in b.1 r.place w.0 w.1 in (
+    = λ k p. let w = some_k s r.place k b.0.room b.0.basic p in b.1 r.place w.0 w.1 in (
       (says s r.place NoPair t).1 (b.0.basic, none),
-      λ q l w. b.0.before q l (no-pair-said s q w).1,
+      λ q l w. b.0.before q l (no_pair_said s q w).1,
     )
 
-no-pair-nowhere : (s payload slot0 : List ℕ) (r : Reading) (payload' slot0' : List ℕ)
+no_pair_nowhere : (s payload slot0 : List ℕ) (r : Reading) (payload' slot0' : List ℕ)
     → Read s payload slot0 r payload' slot0' → r.number ≡ 3 → (p : ℕ) → why s p ≡ NoPair → ⊥
-no-pair-nowhere s payload slot0 r payload' slot0' h e p w =
-    let n = no-pair-said s p w in
-    (finds-nothing s).0 (found_none s payload slot0 r payload' slot0' h e).1 p n.0 n.1
+no_pair_nowhere s payload slot0 r payload' slot0' h e p w =
+    let n = no_pair_said s p w in
+    (finds_nothing s).0 (found_none s payload slot0 r payload' slot0' h e).1 p n.0 n.1
 
 pub reasons : Reasons
 reasons =
     record {
       says = says;
       one_holds = λ s p t. (why s p, (says s p (why s p) t).0 refl);
-      never-two = λ s p v w t hv hw. sym ((says s p v t).1 hv) ∙ (says s p w t).1 hw;
+      never_two = λ s p v w t hv hw. sym ((says s p v t).1 hv) ∙ (says s p w t).1 hw;
       stands = stands;
-      short = why-short;
-      long = why-long;
-      late = λ s p good. why-late s p good.long good.short;
+      short = why_short;
+      long = why_long;
+      late = λ s p good. why_late s p good.long good.short;
       first = first;
       nowhere = nowhere;
-      no-pair = no-pair;
-      no-pair-nowhere = no-pair-nowhere;
+      no_pair = no_pair;
+      no_pair_nowhere = no_pair_nowhere;
     }

@@ -12,23 +12,23 @@ use lib.ListN.{length, get_or}
 use lib.Seq.{ext_get_or}
 use Rattle.line.specs.Bit.{bit_at}
 use Rattle.crc.specs.Remainder.{check}
-use Rattle.crc.proofs.Xor.{xor-differ}
-use Rattle.crc.proofs.Laws.{burst-same, near-end, same}
-use Rattle.line.proofs.BitLaws.{bit-lt}
+use Rattle.crc.proofs.Xor.{xor_differ}
+use Rattle.crc.proofs.Laws.{burst_same, near_end, same}
+use Rattle.line.proofs.BitLaws.{bit_lt}
 use Rattle.e1.specs.Block.{block_bits, block_check, carried}
-use Rattle.e1.proofs.Laws.{block-length, block-bits, block_same, carried-four}
+use Rattle.e1.proofs.Laws.{block_length, block_bits_lem, block_same, carried_four}
 
 -- C2, C3 and C4
 low : List ℕ → ℕ → ℕ
 low s p = 4 * bit_at s (p + 512) + 2 * bit_at s (p + 1024) + bit_at s (p + 1536)
 
-carried-parts : (s : List ℕ) (p : ℕ) → carried s p ≡ bit_at s p * 8 + low s p
+carried_parts : (s : List ℕ) (p : ℕ) → carried s p ≡ bit_at s p * 8 + low s p
 unfolding low
-carried-parts s p = omega (arith, carried-four s p)
+carried_parts s p = omega (arith, carried_four s p)
 
-low-lt : (s : List ℕ) (p : ℕ) → low s p < 8
+low_lt : (s : List ℕ) (p : ℕ) → low s p < 8
 unfolding low
-low-lt s p = omega (arith, bit-lt s (p + 512), bit-lt s (p + 1024), bit-lt s (p + 1536))
+low_lt s p = omega (arith, bit_lt s (p + 512), bit_lt s (p + 1024), bit_lt s (p + 1536))
 
 module _ (s t : List ℕ) (q a : ℕ) (only : (p : ℕ) → bit_at s p ≢ bit_at t p → (a ≤ p) × (p < a + 4)) where
   keeps : (p : ℕ) → ¬ ((a ≤ p) × (p < a + 4)) → bit_at s p ≡ bit_at t p
@@ -61,7 +61,7 @@ module _ (s t : List ℕ) (q a : ℕ) (only : (p : ℕ) → bit_at s p ≢ bit_a
       cs = block_bits t q
 
       l : length bs ≡ length cs
-      l = block-length s q ∙ sym (block-length t q)
+      l = block_length s q ∙ sym (block_length t q)
 
       at : (i : ℕ) → ¬ ((a ≤ q + i) × (q + i < a + 4)) → get_or bs i 0 ≡ get_or cs i 0
       at i n = block_same s t q i (keeps (q + i) n)
@@ -69,22 +69,22 @@ module _ (s t : List ℕ) (q a : ℕ) (only : (p : ℕ) → bit_at s p ≢ bit_a
       go : Dec (bit_at s c1 ≡ bit_at t c1) → Dec (a ≤ c1) → (bs ≡ cs) × (carried s c1 ≡ carried t c1)
       go (yes e) (no n) =
           -- the burst is past the block
-          let b : bs ≡ cs = ext_get_or 0 bs cs l (λ i h. at i (λ w. omega (arith, block-length s q))) in
+          let b : bs ≡ cs = ext_get_or 0 bs cs l (λ i h. at i (λ w. omega (arith, block_length s q))) in
           (b, sym cu ∙ ap (check 4) b ∙ cv)
       go (yes e) (yes h) =
           let c : carried s c1 ≡ carried t c1
-          = carried-parts s c1 ∙ ap₂ (λ x y. x * 8 + y) e (low_same c1 h) ∙ sym (carried-parts t c1) in
+          = carried_parts s c1 ∙ ap₂ (λ x y. x * 8 + y) e (low_same c1 h) ∙ sym (carried_parts t c1) in
           let b : bs ≡ cs
-          = burst-same 4 (lit≤ tt) bs cs (block-bits s q) (block-bits t q) l (a - q)
+          = burst_same 4 (lit≤ tt) bs cs (block_bits_lem s q) (block_bits_lem t q) l (a - q)
           (λ i k. at i (λ w. omega arith)) (λ i k. at i (λ w. omega arith)) (cu ∙ c ∙ sym cv) in
           (b, c)
       go (no n) d =
           -- the first bit of the check is hit, so of the block only its last three can be
           let (h, h') = only c1 n in
           let c : bit_xor (check 4 bs) (check 4 cs) ≡ 8
-          = ap₂ bit_xor (cu ∙ carried-parts s c1) (cv ∙ carried-parts t c1)
-          ∙ xor_block 3 (bit_at s c1) (bit_at t c1) (low s c1) (low t c1) (low-lt s c1) (low-lt t c1)
-          ∙ ap₂ (λ x y. x * 8 + y) (xor-differ (bit_at s c1) (bit_at t c1) (bit-lt s c1) (bit-lt t c1) n)
+          = ap₂ bit_xor (cu ∙ carried_parts s c1) (cv ∙ carried_parts t c1)
+          ∙ xor_block 3 (bit_at s c1) (bit_at t c1) (low s c1) (low t c1) (low_lt s c1) (low_lt t c1)
+          ∙ ap₂ (λ x y. x * 8 + y) (xor_differ (bit_at s c1) (bit_at t c1) (bit_lt s c1) (bit_lt t c1) n)
           (ap (bit_xor (low s c1)) (sym (low_same c1 h)) ∙ xor_self (low s c1)) in
-          absurd (near-end 4 (lit≤ tt) bs cs (block-bits s q) (block-bits t q) l
-          (λ i k. at i (λ w. omega (arith, block-length s q))) c)
+          absurd (near_end 4 (lit≤ tt) bs cs (block_bits_lem s q) (block_bits_lem t q) l
+          (λ i k. at i (λ w. omega (arith, block_length s q))) c)

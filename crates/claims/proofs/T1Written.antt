@@ -7,21 +7,21 @@ use native.Mathlib.Omega.{arith}
 use borrow.Author.Tests.{eqb-true, le-ltb}
 use lib.ListN.{length, get_or, take, drop}
 use lib.Seq.{take_at}
-use Rattle.base.proofs.TabLaws.{length-tab}
-use Rattle.line.specs.Bit.{octetAt}
-use Rattle.t1.specs.Superframe.{octetPlace, agrees}
-use Rattle.t1align.specs.Place.{firstStanding}
-use Rattle.t1align.proofs.Laws.{first-stands}
-use Rattle.t1read.specs.Reading.{whole, octetOf, payloadOf, linkBit, link_of}
-use Rattle.t1read.specs.Entry.{place_in, wholeIn, Read}
+use Rattle.base.proofs.TabLaws.{length_tab}
+use Rattle.line.specs.Bit.{octet_at}
+use Rattle.t1.specs.Superframe.{octet_place, agrees}
+use Rattle.t1align.specs.Place.{first_standing}
+use Rattle.t1align.proofs.Laws.{first_stands}
+use Rattle.t1read.specs.Reading.{whole, octet_of, payload_of, link_bit, link_of}
+use Rattle.t1read.specs.Entry.{place_in, whole_in, Read}
 use Rattle.t1read.specs.declared.Reading.{Reading}
 use Rattle.t1read.proofs.EntryLaws.{accepts, place_is, read_number}
 use Rattle.t1write.specs.Writing.{carries, written}
 use Rattle.t1write.specs.Inputs.{Inputs}
-use Rattle.t1write.proofs.Laws.{length-written, octet-written, payload-back, link-written, link-back, carried-written}
-use Rattle.t1write.proofs.Laws.{signal-written, check-written, agrees-written, last-check}
+use Rattle.t1write.proofs.Laws.{length_written, octet_written, payload_back, link_written, link_back, carried_written}
+use Rattle.t1write.proofs.Laws.{signal_written, check_written, agrees_written, last_check}
 use Rattle.claims.specs.T1Demand2.{AgreesT1, FramingT1, StandardT1, ReadBackT1}
-use Rattle.claims.proofs.T1Read.{at, all, front, front-link, compares, none-errored}
+use Rattle.claims.proofs.T1Read.{at, all, front, front_link, compares, none_errored}
 
 -- the line that is written from p, l and c
 module _ {p l : List ℕ} {c n : ℕ} (g : Inputs p l c n) where
@@ -32,19 +32,19 @@ module _ {p l : List ℕ} {c n : ℕ} (g : Inputs p l c n) where
   unfolding carries
   framing least =
       record {
-        long = length-written p l c n;
-        link = link-written g;
-        first-check = carried-written g 0 (omega arith);
+        long = length_written p l c n;
+        link = link_written g;
+        first_check = carried_written g 0 (omega arith);
         check = λ b h.
             let e : b + 1 ≡ suc b = omega arith in
-            carried-written g (b + 1) h ∙ ap (carries p c) e ∙ sym (check-written g b (omega arith));
-        last-check = last-check g least;
-        signals = λ b i h k. signal-written g b h i (omega arith);
+            carried_written g (b + 1) h ∙ ap (carries p c) e ∙ sym (check_written g b (omega arith));
+        last_check = last_check g least;
+        signals = λ b i h k. signal_written g b h i (omega arith);
       }
 
   agree : (b : ℕ) → b + 1 < n → AgreesT1 line 0 b
   unfolding agrees
-  agree b h = let q : 0 + 4632 * b ≡ 4632 * b = omega arith in rw q (eqb-true _ _ (agrees-written g b h))
+  agree b h = let q : 0 + 4632 * b ≡ 4632 * b = omega arith in rw q (eqb-true _ _ (agrees_written g b h))
 
   module _ (octets : (i : ℕ) → get_or p i 0 < 256) where
     pub standard : 1 ≤ n → StandardT1 line p l c (carries p c n) n
@@ -55,29 +55,29 @@ module _ {p l : List ℕ} {c n : ℕ} (g : Inputs p l c n) where
               let i : ℕ = 24 * f + j in
               let u : i / 24 ≡ f = omega arith in
               let v : i % 24 ≡ j = omega arith in
-              sym (ap₂ (λ x y. octetAt line (octetPlace 0 x y)) u v) ∙ octet-written g i (omega arith) (octets i);
+              sym (ap₂ (λ x y. octet_at line (octet_place 0 x y)) u v) ∙ octet_written g i (omega arith) (octets i);
         }
 
     -- read again
     module _ (two : 2 ≤ n) (few : n ≤ 14) where
-      first : firstStanding line ≡ some 0
+      first : first_standing line ≡ some 0
       first =
-          (first-stands line 0).1 (record {
+          (first_stands line 0).1 (record {
             stands = record {
-              room = omega (arith, length-written p l c n);
-              first = signal-written g 0 (omega arith);
-              second = signal-written g 1 (omega arith);
+              room = omega (arith, length_written p l c n);
+              first = signal_written g 0 (omega arith);
+              second = signal_written g 1 (omega arith);
               agreement = agree 0 (omega arith);
             };
             before = λ q h. absurd (omega arith);
           })
 
-      place-0 : place_in line ≡ 0
-      place-0 = sym (place_is line 0 first)
+      place_0 : place_in line ≡ 0
+      place_0 = sym (place_is line 0 first)
 
-      whole-n : wholeIn line ≡ n
+      whole_n : whole_in line ≡ n
       unfolding whole
-      whole-n = ap (whole line) place-0 ∙ omega (arith, length-written p l c n)
+      whole_n = ap (whole line) place_0 ∙ omega (arith, length_written p l c n)
 
       module _ (payload link : List ℕ) (r : Reading) (payload' link' : List ℕ) (room : 576 * n ≤ length payload) (room-link : 12 * n ≤ length link)
           (h : Read line payload link r payload' link') where
@@ -85,33 +85,33 @@ module _ {p l : List ℕ} {c n : ℕ} (g : Inputs p l c n) where
         number =
             read_number line payload link r payload' link' h
             ∙ accepts line (length payload) (length link)
-            (record { long = omega (arith, length-written p l c n); short = omega (arith, length-written p l c n) }) 0 first
-            (rw (whole-n, le-ltb (length payload) (576 * n) room, le-ltb (length link) (12 * n) room-link))
+            (record { long = omega (arith, length_written p l c n); short = omega (arith, length_written p l c n) }) 0 first
+            (rw (whole_n, le-ltb (length payload) (576 * n) room, le-ltb (length link) (12 * n) room-link))
 
-        at-0 : r.place ≡ 0
-        at-0 = at line payload link r payload' link' h number ∙ place-0
+        at_0 : r.place ≡ 0
+        at_0 = at line payload link r payload' link' h number ∙ place_0
 
-        all-n : r.whole ≡ n
-        all-n = all line payload link r payload' link' h number ∙ whole-n
+        all_n : r.whole ≡ n
+        all_n = all line payload link r payload' link' h number ∙ whole_n
 
-        pub reads-clean : ReadBackT1 p l n r payload' link'
-        unfolding payloadOf link_of
-        reads-clean =
+        pub reads_clean : ReadBackT1 p l n r payload' link'
+        unfolding payload_of link_of
+        reads_clean =
             record {
               clean = record {
                 number = number;
-                place = at-0;
-                whole = all-n;
-                compared = omega (arith, compares line payload link r payload' link' h number, all-n);
-                errored = (none-errored line payload link r payload' link' h number).1
-                    (λ b k. rw at-0 (agree b (omega (arith, all-n))));
-                link = ap (take (12 * n)) (front-link line payload link r payload' link' h number
-                    ∙ ap₂ (λ x y. link_of line x y ++ drop (12 * wholeIn line) link) at-0 all-n)
-                    ∙ take_at (link_of line 0 n) (drop (12 * wholeIn line) link) (12 * n) (length-tab (12 * n) (linkBit line 0))
-                    ∙ link-back g;
+                place = at_0;
+                whole = all_n;
+                compared = omega (arith, compares line payload link r payload' link' h number, all_n);
+                errored = (none_errored line payload link r payload' link' h number).1
+                    (λ b k. rw at_0 (agree b (omega (arith, all_n))));
+                link = ap (take (12 * n)) (front_link line payload link r payload' link' h number
+                    ∙ ap₂ (λ x y. link_of line x y ++ drop (12 * whole_in line) link) at_0 all_n)
+                    ∙ take_at (link_of line 0 n) (drop (12 * whole_in line) link) (12 * n) (length_tab (12 * n) (link_bit line 0))
+                    ∙ link_back g;
               };
               payload = ap (take (576 * n)) (front line payload link r payload' link' h number
-                  ∙ ap₂ (λ x y. payloadOf line x y ++ drop (576 * wholeIn line) payload) at-0 all-n)
-                  ∙ take_at (payloadOf line 0 n) (drop (576 * wholeIn line) payload) (576 * n) (length-tab (576 * n) (octetOf line 0))
-                  ∙ payload-back g octets;
+                  ∙ ap₂ (λ x y. payload_of line x y ++ drop (576 * whole_in line) payload) at_0 all_n)
+                  ∙ take_at (payload_of line 0 n) (drop (576 * whole_in line) payload) (576 * n) (length_tab (576 * n) (octet_of line 0))
+                  ∙ payload_back g octets;
             }

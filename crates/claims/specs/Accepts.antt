@@ -1,22 +1,22 @@
 -- Which inputs each entry accepts, both ways (KIT §8).
 use Rattle.std.specs.Prelude.{ℕ, ◌+◌, ◌*◌, ◌≤◌, ◌<◌, ◌≡◌, true, false, List, ◌↔◌, ◌⊎◌, length, get_or}
-use Rattle.align.specs.Place.{placeOf}
+use Rattle.align.specs.Place.{place_of}
 use Rattle.align.specs.Stands.{Stands}
-use Rattle.align.specs.Why.{whyRefusal}
+use Rattle.align.specs.Why.{why_refusal}
 use Rattle.align.specs.declared.Found.TheVariants.{At}
-use Rattle.read.specs.Entry.{GoodLength, usedIn}
+use Rattle.read.specs.Entry.{GoodLength, used_in}
 use Rattle.read.specs.Entry as reads
-use Rattle.stream.specs.Entry.{octetsCame, grownOf, feedRefusal, endRefusal}
+use Rattle.stream.specs.Entry.{octets_came, grown_of, feed_refusal, end_refusal}
 use Rattle.stream.specs.declared.Stream.{Stream}
-use Rattle.write.specs.Entry.{overheadLimit}
+use Rattle.write.specs.Entry.{overhead_limit}
 use Rattle.write.specs.Entry as writes
 use Rattle.e1.specs.Payload.{multiframes}
-use Rattle.signals.specs.Entry.{slot16In, filled}
+use Rattle.signals.specs.Entry.{slot16_in, filled}
 use Rattle.signals.specs.Entry as signals
 use Rattle.signalled.specs.Entry as signalled
 use Rattle.exchange.specs.declared.State.{State}
-use Rattle.exchange.specs.Mapping.{mapRefusal}
-use Rattle.exchange.specs.Machine.{kind_of, aOf, bOf, hostRefusal, keyRefusal}
+use Rattle.exchange.specs.Mapping.{map_refusal}
+use Rattle.exchange.specs.Machine.{kind_of, a_of, b_of, host_refusal, key_refusal}
 use Rattle.t1read.specs.Entry as t1reads
 use Rattle.t1write.specs.Entry as t1writes
 use Rattle.claims.specs.T1Accepts.{ToReadT1, ToWriteT1, ToSignalT1}
@@ -27,15 +27,15 @@ pub record ToRead (s : List ℕ) (a b : ℕ) : Type 0 where
   pub p : ℕ
   pub k : ℕ
   pub stands : Stands s p k
-  pub payload : 496 * usedIn s ≤ a
-  pub slot0 : 16 * usedIn s ≤ b
+  pub payload : 496 * used_in s ≤ a
+  pub slot0 : 16 * used_in s ≤ b
 
 -- a stream that has not ended and is believed: its window has 2,048 octets at most, and no number is over 134,217,728
 pub record Going (st : Stream) : Type 0 where
-  pub not-ended : st.ended ≡ false
+  pub not_ended : st.ended ≡ false
   pub fill : st.fill ≤ 2048
   pub before : st.line.before ≤ 134217728
-  pub place : placeOf st.line.found ≤ 134217728
+  pub place : place_of st.line.found ≤ 134217728
   pub k : (p k : ℕ) → st.line.found ≡ At p k → k ≤ 134217728
   pub used : st.line.used ≤ 134217728
   pub lost : st.line.lost ≤ 134217728
@@ -48,14 +48,14 @@ pub record Going (st : Stream) : Type 0 where
 pub record ToFeed (st : Stream) (window t : List ℕ) (a b : ℕ) : Type 0 where
   pub going : Going st
   pub sized : length window ≡ 2048
-  pub limit : octetsCame st + length t ≤ 16777216
-  pub payload : 496 * (grownOf st window t).multiframes ≤ a
-  pub slot0 : 16 * (grownOf st window t).multiframes ≤ b
+  pub limit : octets_came st + length t ≤ 16777216
+  pub payload : 496 * (grown_of st window t).multiframes ≤ a
+  pub slot0 : 16 * (grown_of st window t).multiframes ≤ b
 
 -- a stream that is to end
 pub record ToEnd (st : Stream) : Type 0 where
   pub going : Going st
-  pub long : 2048 ≤ octetsCame st
+  pub long : 2048 ≤ octets_came st
   pub p : ℕ
   pub k : ℕ
   pub stands : st.line.found ≡ At p k
@@ -66,7 +66,7 @@ pub record ToHear (s : List ℕ) (a : ℕ) : Type 0 where
   pub p : ℕ
   pub k : ℕ
   pub stands : Stands s p k
-  pub room : filled (slot16In s) ≤ a
+  pub room : filled (slot16_in s) ≤ a
 
 -- an image s, and a place p of it that is asked about
 pub record ToAsk (s : List ℕ) (p : ℕ) : Type 0 where
@@ -80,25 +80,25 @@ pub record ToWrite (p o : List ℕ) (c m : ℕ) : Type 0 where
   pub most : n ≤ 16
   pub payload : length p ≡ 496 * n
   pub overhead : length o ≡ 8 * n
-  pub limited : (h : ℕ) → h < 8 * n → get_or o h 0 < overheadLimit h
+  pub limited : (h : ℕ) → h < 8 * n → get_or o h 0 < overhead_limit h
   pub check : c ≤ 15
   pub room : 512 * n ≤ m
 
 -- the same, with signalling xy and v
 pub record ToSignal (p o : List ℕ) (c : ℕ) (xy v : List ℕ) (m : ℕ) : Type 0 where
   pub written : ToWrite p o c m
-  pub xy-octets : length xy ≡ multiframes p
-  pub xy-limited : (i : ℕ) → i < multiframes p → get_or xy i 0 ≤ 15
-  pub abcd-octets : length v ≡ 30 * multiframes p
-  pub abcd-limited : (i : ℕ) → i < 30 * multiframes p → (1 ≤ get_or v i 0) × (get_or v i 0 ≤ 15)
+  pub xy_octets : length xy ≡ multiframes p
+  pub xy_limited : (i : ℕ) → i < multiframes p → get_or xy i 0 ≤ 15
+  pub abcd_octets : length v ≡ 30 * multiframes p
+  pub abcd_limited : (i : ℕ) → i < 30 * multiframes p → (1 ≤ get_or v i 0) × (get_or v i 0 ≤ 15)
 
 -- a record r, in the state s
 pub record ToHost (s : State) (r : List ℕ) : Type 0 where
   pub four : length r ≡ 4
   pub least : 1 ≤ kind_of r
   pub most : kind_of r ≤ 4
-  pub slot : (kind_of r ≡ 1) ⊎ (kind_of r ≡ 3) → (1 ≤ aOf r) × (aOf r ≤ 31)
-  pub entry : kind_of r ≡ 1 → bOf r ≤ 31
+  pub slot : (kind_of r ≡ 1) ⊎ (kind_of r ≡ 3) → (1 ≤ a_of r) × (a_of r ≤ 31)
+  pub entry : kind_of r ≡ 1 → b_of r ≤ 31
   pub unlocked : (kind_of r ≡ 3 → ⊥) → s.flag ≡ true
   pub staged : (kind_of r ≡ 2) ⊎ (kind_of r ≡ 4) → s.staging ≡ true
 
@@ -113,17 +113,17 @@ pub record ToMap (payload out : List ℕ) : Type 0 where
 -- the number is 0 exactly for these; a boundary is never refused
 pub record Accepts : Type 0 where
   pub read : (s : List ℕ) (a b : ℕ) → reads.refusal s a b ≡ 0 ↔ ToRead s a b
-  pub feed : (st : Stream) (window t : List ℕ) (a b : ℕ) → feedRefusal st window t a b ≡ 0 ↔ ToFeed st window t a b
-  pub end : (st : Stream) → endRefusal st ≡ 0 ↔ ToEnd st
+  pub feed : (st : Stream) (window t : List ℕ) (a b : ℕ) → feed_refusal st window t a b ≡ 0 ↔ ToFeed st window t a b
+  pub end : (st : Stream) → end_refusal st ≡ 0 ↔ ToEnd st
   pub signals : (s : List ℕ) (a : ℕ) → signals.refusal s a ≡ 0 ↔ ToHear s a
-  pub why : (s : List ℕ) (p : ℕ) → whyRefusal s p ≡ 0 ↔ ToAsk s p
+  pub why : (s : List ℕ) (p : ℕ) → why_refusal s p ≡ 0 ↔ ToAsk s p
   pub write : (p o : List ℕ) (c m : ℕ) → writes.refusal p o c m ≡ 0 ↔ ToWrite p o c m
-  pub write-signalled : (p o : List ℕ) (c : ℕ) (xy v : List ℕ) (m : ℕ)
+  pub write_signalled : (p o : List ℕ) (c : ℕ) (xy v : List ℕ) (m : ℕ)
       → signalled.refusal p o c xy v m ≡ 0 ↔ ToSignal p o c xy v m
-  pub host : (s : State) (r : List ℕ) → hostRefusal s r ≡ 0 ↔ ToHost s r
-  pub key : (position : ℕ) → keyRefusal position ≡ 0 ↔ (position ≡ 0) ⊎ (position ≡ 1)
-  pub map : (payload out : List ℕ) → mapRefusal payload out ≡ 0 ↔ ToMap payload out
-  pub t1-read : (s : List ℕ) (a b : ℕ) → t1reads.refusal s a b ≡ 0 ↔ ToReadT1 s a b
-  pub t1-write : (p l : List ℕ) (c m : ℕ) → t1writes.refusal p l c m ≡ 0 ↔ ToWriteT1 p l c m
-  pub t1-write-signalled : (p l : List ℕ) (c : ℕ) (g : List ℕ) (m : ℕ)
-      → t1writes.signalledRefusal p l c g m ≡ 0 ↔ ToSignalT1 p l c g m
+  pub host : (s : State) (r : List ℕ) → host_refusal s r ≡ 0 ↔ ToHost s r
+  pub key : (position : ℕ) → key_refusal position ≡ 0 ↔ (position ≡ 0) ⊎ (position ≡ 1)
+  pub map : (payload out : List ℕ) → map_refusal payload out ≡ 0 ↔ ToMap payload out
+  pub t1_read : (s : List ℕ) (a b : ℕ) → t1reads.refusal s a b ≡ 0 ↔ ToReadT1 s a b
+  pub t1_write : (p l : List ℕ) (c m : ℕ) → t1writes.refusal p l c m ≡ 0 ↔ ToWriteT1 p l c m
+  pub t1_write_signalled : (p l : List ℕ) (c : ℕ) (g : List ℕ) (m : ℕ)
+      → t1writes.signalled_refusal p l c g m ≡ 0 ↔ ToSignalT1 p l c g m

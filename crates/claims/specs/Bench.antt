@@ -3,13 +3,13 @@ use Rattle.std.specs.Prelude.{ℕ, ◌+◌, ◌-◌, ◌*◌, ◌/◌, ◌%◌, 
 use Rattle.base.specs.Choice.{if◌then◌else◌}
 use Rattle.base.specs.Tab.{tab, sum}
 use Rattle.e1.specs.Block.{block_check}
-use Rattle.e1.specs.Frame.{evenSlot0, oddSlot0}
-use Rattle.t1.specs.Superframe.{checkOf}
-use Rattle.signals.specs.Signalling.{firstIn}
+use Rattle.e1.specs.Frame.{even_slot0, odd_slot0}
+use Rattle.t1.specs.Superframe.{check_of}
+use Rattle.signals.specs.Signalling.{first_in}
 use Rattle.exchange.specs.Mapping.{entry_at}
-use Rattle.exchange.specs.Machine.{startState}
+use Rattle.exchange.specs.Machine.{start_state}
 use Rattle.base.specs.Answer.{among}
-use Rattle.exchange.specs.Runs.{Call, host, key, boundary, afterRun}
+use Rattle.exchange.specs.Runs.{Call, host, key, boundary, after_run}
 
 -- A case: the places of a block's bits that are 1, and its check; an octet, and what it is; a run from the start, a
 -- slot, and its live entry then; slot 16 of frames in a row, and the first at which alignment is taken; of T1 a superframe
@@ -26,19 +26,19 @@ unfoldable pub block_of : List ℕ → List ℕ
 block_of places = tab 256 (λ i. sum 8 (λ j. if among (8 * i + j) places then 2 ^ (7 - j) else 0))
 
 -- bit i of a superframe whose octets are all x, with ones at these places too
-unfoldable pub superBit : ℕ → List ℕ → ℕ → ℕ
-superBit x places i = if among i places then 1 else x / 2 ^ (7 - (i % 193 - 1) % 8) % 2
+unfoldable pub super_bit : ℕ → List ℕ → ℕ → ℕ
+super_bit x places i = if among i places then 1 else x / 2 ^ (7 - (i % 193 - 1) % 8) % 2
 
 unfoldable pub holds : Case → Bool
 holds (ones places c) = eqb (block_check (block_of places) 0) c
 holds (octet x y) = eqb x y
-holds (run calls slot entry) = eqb (entry_at (afterRun startState calls).live slot) entry
-holds (taken t f) = eqb (firstIn t (length t)) f
-holds (superframe x places c) = eqb (checkOf (superBit x places)) c
+holds (run calls slot entry) = eqb (entry_at (after_run start_state calls).live slot) entry
+holds (taken t f) = eqb (first_in t (length t)) f
+holds (superframe x places c) = eqb (check_of (super_bit x places)) c
 
-abbrev pub allHold : List Case → Bool
-allHold [] = true
-allHold (c ∷ cs) = holds c && allHold cs
+abbrev pub all_hold : List Case → Bool
+all_hold [] = true
+all_hold (c ∷ cs) = holds c && all_hold cs
 
 abbrev pub stage59 : Call
 stage59 = host (1 ∷ 5 ∷ 9 ∷ 0 ∷ [])
@@ -63,10 +63,10 @@ cases =
     -- 5
     ∷ ones (2043 ∷ 2046 ∷ 2047 ∷ []) 0
     -- 6: 0x1B, 0x9B, 0x5F, 0x7F
-    ∷ octet (evenSlot0 0) 27
-    ∷ octet (evenSlot0 1) 155
-    ∷ octet (oddSlot0 0 31) 95
-    ∷ octet (oddSlot0 0 63) 127
+    ∷ octet (even_slot0 0) 27
+    ∷ octet (even_slot0 1) 155
+    ∷ octet (odd_slot0 0 31) 95
+    ∷ octet (odd_slot0 0 63) 127
     -- 7
     ∷ run (key 1 ∷ stage59 ∷ commit ∷ key 0 ∷ boundary ∷ key 1 ∷ []) 5 5
     -- 8
@@ -85,4 +85,4 @@ cases =
     ∷ []
 
 abbrev pub Bench : Type 0
-Bench = allHold cases ≡ true
+Bench = all_hold cases ≡ true

@@ -24,27 +24,27 @@ abbrev pub WrongWord : List ℕ → ℕ → ℕ → Type 0
 WrongWord s q i = field s (frame_at q (2 * i) + 1) 7 ≢ 27
 
 -- the place of bit j of that word, j from 0 to 6
-abbrev pub wordBitAt : ℕ → ℕ → ℕ → ℕ
-wordBitAt q i j = frame_at q (2 * i) + 1 + j
+abbrev pub word_bit_at : ℕ → ℕ → ℕ → ℕ
+word_bit_at q i j = frame_at q (2 * i) + 1 + j
 
 -- it is not as in 0011011
 abbrev pub WrongBit : List ℕ → ℕ → ℕ → ℕ → Type 0
-WrongBit s q i j = bit_at s (wordBitAt q i j) ≢ get_or alignment j 0
+WrongBit s q i j = bit_at s (word_bit_at q i j) ≢ get_or alignment j 0
 
 -- t is s with that bit turned over, from right to wrong
 pub record OneHit (s t : List ℕ) (q i j : ℕ) : Type 0 where
   pub bit : j < 7
-  pub right : bit_at s (wordBitAt q i j) ≡ get_or alignment j 0
+  pub right : bit_at s (word_bit_at q i j) ≡ get_or alignment j 0
   pub wrong : WrongBit t q i j
-  pub others : (p : ℕ) → p ≢ wordBitAt q i j → bit_at t p ≡ bit_at s p
+  pub others : (p : ℕ) → p ≢ word_bit_at q i j → bit_at t p ≡ bit_at s p
 
 -- the place of E bit e: they are numbered through, two to a multiframe, in its frames 13 and 15
-abbrev pub bitEAt : ℕ → ℕ → ℕ
-bitEAt q e = frame_at q (16 * (e / 2) + 13 + 2 * (e % 2))
+abbrev pub bit_e_at : ℕ → ℕ → ℕ
+bit_e_at q e = frame_at q (16 * (e / 2) + 13 + 2 * (e % 2))
 
 -- it is 0
 abbrev pub FarError : List ℕ → ℕ → ℕ → Type 0
-FarError s q e = bit_at s (bitEAt q e) ≡ 0
+FarError s q e = bit_at s (bit_e_at q e) ≡ 0
 
 pub record Counts : Type 0 where
   pub words : (s payload slot0 : List ℕ) (r : Reading) (payload' slot0' : List ℕ)
@@ -57,9 +57,9 @@ pub record Counts : Type 0 where
       → Read s payload slot0 r payload' slot0' → r.number ≡ 0
       → Counted (7 * (8 * r.used)) r.wordbits (λ b. WrongBit s r.start (b / 7) (b % 7))
   -- a wrong word has one of them or more, and seven at most
-  pub least-bits : (s payload slot0 : List ℕ) (r : Reading) (payload' slot0' : List ℕ)
+  pub least_bits : (s payload slot0 : List ℕ) (r : Reading) (payload' slot0' : List ℕ)
       → Read s payload slot0 r payload' slot0' → r.words ≤ r.wordbits
-  pub most-bits : (s payload slot0 : List ℕ) (r : Reading) (payload' slot0' : List ℕ)
+  pub most_bits : (s payload slot0 : List ℕ) (r : Reading) (payload' slot0' : List ℕ)
       → Read s payload slot0 r payload' slot0' → r.wordbits ≤ 7 * r.words
   pub no_bits : (s payload slot0 : List ℕ) (r : Reading) (payload' slot0' : List ℕ)
       → Read s payload slot0 r payload' slot0' → r.wordbits ≡ 0 ↔ r.words ≡ 0
@@ -77,6 +77,6 @@ pub record Counts : Type 0 where
       → Read s payload slot0 r payload' slot0' → r.number ≡ 0
       → Counted (2 * r.used) r.farend (FarError s r.start)
   -- so none is errored exactly when every compared block agrees
-  pub none-errored : (s payload slot0 : List ℕ) (r : Reading) (payload' slot0' : List ℕ)
+  pub none_errored : (s payload slot0 : List ℕ) (r : Reading) (payload' slot0' : List ℕ)
       → Read s payload slot0 r payload' slot0' → r.number ≡ 0
       → r.errored ≡ 0 ↔ ((b : ℕ) → b + 1 < 2 * r.used → Agrees s r.start b)

@@ -47,23 +47,23 @@ pub record ReadClean (s : List ℕ) (n : ℕ) : Type 0 where
 
 -- two images of one multiframe that agree as above and differ within w bits from a on, the bit p among them
 pub record Unseen (w a : ℕ) (s t : List ℕ) (p : ℕ) : Type 0 where
-  pub s-aligned : Aligned s 1
-  pub t-aligned : Aligned t 1
-  pub s-agrees : Agreeing s 1
-  pub t-agrees : Agreeing t 1
+  pub s_aligned : Aligned s 1
+  pub t_aligned : Aligned t 1
+  pub s_agrees : Agreeing s 1
+  pub t_agrees : Agreeing t 1
   pub only : OnlyWithin w a s t
   pub differs : bit_at s p ≢ bit_at t p
 
 -- a multiframe of zeros, but for octet i, which is x
-abbrev pub zerosBut : ℕ → ℕ → List ℕ
-zerosBut i x = tab 512 (λ j. if eqb j i then x else 0)
+abbrev pub zeros_but : ℕ → ℕ → List ℕ
+zeros_but i x = tab 512 (λ j. if eqb j i then x else 0)
 
 pub record Demand3 : Type 0 where
   pub burst : (n : ℕ) (s t : List ℕ) → Aligned s n → Aligned t n → Agreeing s n → Agreeing t n → OnlyThere n s t
   -- the same of two images as `read` answers of them
   pub read : (n : ℕ) (s t : List ℕ) → Aligned s n → Aligned t n → ReadClean s n → ReadClean t n → OnlyThere n s t
   -- both do occur: C1 of the first block, and the last bit of the last
-  pub check-bit : Unseen 4 0 (zerosBut 0 0) (zerosBut 0 128) 0
-  pub data-bit : Unseen 4 4095 (zerosBut 0 0) (zerosBut 511 1) 4095
+  pub at_check_bit : Unseen 4 0 (zeros_but 0 0) (zeros_but 0 128) 0
+  pub at_data_bit : Unseen 4 4095 (zeros_but 0 0) (zeros_but 511 1) 4095
   -- and five bits can hide: 10011 over the last bits of a first block leaves its check as it was
-  pub five-can-hide : Unseen 5 2043 (zerosBut 0 0) (zerosBut 255 19) 2043
+  pub five_can_hide : Unseen 5 2043 (zeros_but 0 0) (zeros_but 255 19) 2043

@@ -18,9 +18,9 @@ use Rattle.claims.specs.Single.{Single}
 use Rattle.claims.specs.Bench.{Bench}
 
 pub record Promises : Type 0 where
-  pub demand-1 : Demand1
-  pub demand-2 : Demand2
-  pub demand-3 : Demand3
+  pub demand_1 : Demand1
+  pub demand_2 : Demand2
+  pub demand_3 : Demand3
   pub losses : Losses
   pub counts : Counts
   pub accepts : Accepts
@@ -28,10 +28,10 @@ pub record Promises : Type 0 where
   pub streams : Streams
   pub signals : Signals
   pub interface : Interface
-  pub t1-demand-1 : T1Demand1
-  pub t1-demand-2 : T1Demand2
-  pub t1-demand-3 : T1Demand3
-  pub two-hits : TwoHits
-  pub t1-two-hits : T1TwoHits
+  pub t1_demand_1 : T1Demand1
+  pub t1_demand_2 : T1Demand2
+  pub t1_demand_3 : T1Demand3
+  pub two_hits : TwoHits
+  pub t1_two_hits : T1TwoHits
   pub single : Single
   pub bench : Bench

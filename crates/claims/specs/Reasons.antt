@@ -13,7 +13,7 @@ use Rattle.claims.specs.Accepts.{ToAsk}
 pub record FirstSaid (s : List ℕ) (place start : ℕ) : Type 0 where
   pub k : ℕ
   pub here : why s place ≡ NoneFails k
-  pub start-there : start ≡ place + 512 * k
+  pub start_there : start ≡ place + 512 * k
   pub before : (q l : ℕ) → q < place → why s q ≡ NoneFails l → ⊥
 
 pub record Reasons : Type 0 where
@@ -21,7 +21,7 @@ pub record Reasons : Type 0 where
   pub says : (s : List ℕ) (p : ℕ) (w : Why) → ToAsk s p → why s p ≡ w ↔ Says s p w
   -- so one of them always holds, and never two
   pub one_holds : (s : List ℕ) (p : ℕ) → ToAsk s p → (w : Why) × Says s p w
-  pub never-two : (s : List ℕ) (p : ℕ) (v w : Why) → ToAsk s p → Says s p v → Says s p w → v ≡ w
+  pub never_two : (s : List ℕ) (p : ℕ) (v w : Why) → ToAsk s p → Says s p v → Says s p w → v ≡ w
   -- that a place stands with k is said of it exactly when it does and k is its least; of one without room it is not
   pub stands : (s : List ℕ) (p k : ℕ) → GoodLength s → why s p ≡ NoneFails k ↔ Stands s p k
   -- the refusals, the image's size first
@@ -36,8 +36,8 @@ pub record Reasons : Type 0 where
       → (r.number ≡ 3) ⊎ (r.number ≡ 15) ↔ ((p k : ℕ) → why s p ≡ NoneFails k → ⊥)
   -- the place beside number 15 is the first of which it is said that it has no pair of signals, and with number 3 that is
   -- said of none
-  pub no-pair : (s payload slot0 : List ℕ) (r : Reading) (payload' slot0' : List ℕ)
+  pub no_pair : (s payload slot0 : List ℕ) (r : Reading) (payload' slot0' : List ℕ)
       → Read s payload slot0 r payload' slot0' → r.number ≡ 15
       → (why s r.place ≡ NoPair) × ((q : ℕ) → q < r.place → why s q ≡ NoPair → ⊥)
-  pub no-pair-nowhere : (s payload slot0 : List ℕ) (r : Reading) (payload' slot0' : List ℕ)
+  pub no_pair_nowhere : (s payload slot0 : List ℕ) (r : Reading) (payload' slot0' : List ℕ)
       → Read s payload slot0 r payload' slot0' → r.number ≡ 3 → (p : ℕ) → why s p ≡ NoPair → ⊥

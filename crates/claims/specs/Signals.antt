@@ -1,18 +1,18 @@
 -- Signalling, read, heard and written (KIT §5, §6 and §11).
 use Rattle.std.specs.Prelude.{ℕ, ◌+◌, ◌-◌, ◌*◌, ◌/◌, ◌%◌, ◌≤◌, ◌<◌, ◌≡◌, true, List, ◌++◌, ◌↔◌, ◌≢◌, length, get_or, take, drop}
 use Rattle.base.specs.Tab.{tab}
-use Rattle.line.specs.Bit.{octetAt}
+use Rattle.line.specs.Bit.{octet_at}
 use Rattle.e1.specs.Frame.{slot_at}
 use Rattle.e1.specs.Payload.{index_of, multiframes}
 use Rattle.read.specs.Entry.{Read}
 use Rattle.read.specs.declared.Reading.{Reading}
 use Rattle.write.specs.declared.Written.{Written}
-use Rattle.signals.specs.Signalling.{signalAt, begun, walk, loses, startsIn, readIn, firstIn, abcdAt, abcdIn}
+use Rattle.signals.specs.Signalling.{signal_at, begun, walk, loses, starts_in, read_in, first_in, abcd_at, abcd_in}
 use Rattle.signals.specs.Lost.{Lost}
-use Rattle.signals.specs.Entry.{slot16In, Signalled}
+use Rattle.signals.specs.Entry.{slot16_in, Signalled}
 use Rattle.signals.specs.declared.Signalling.{Signalling}
-use Rattle.heard.specs.Hearing.{nothing, afterRow, hearingOf, is_held, xyOf, toldAlong, Hears}
-use Rattle.signalled.specs.Slot16.{slot16, withSlot16}
+use Rattle.heard.specs.Hearing.{nothing, after_row, hearing_of, is_held, xy_of, told_along, Hears}
+use Rattle.signalled.specs.Slot16.{slot16, with_slot16}
 use Rattle.signalled.specs.Entry.{Wrote}
 use Rattle.claims.specs.Demand2.{Standard, ReadBack}
 
@@ -30,8 +30,8 @@ pub record TakenFirst (t : List ℕ) (n f : ℕ) : Type 0 where
 
 -- n multiframes on the line, with the signalling of xy and v: what slot 16 has, and every other slot
 pub record SignalledLine (line p xy v : List ℕ) (n : ℕ) : Type 0 where
-  pub slot-16 : (f : ℕ) → f < 16 * n → octetAt line (slot_at 0 f 16) ≡ slot16 xy v f
-  pub others : (f j : ℕ) → f < 16 * n → 1 ≤ j → j ≤ 31 → j ≢ 16 → octetAt line (slot_at 0 f j) ≡ get_or p (index_of f j) 0
+  pub slot_16 : (f : ℕ) → f < 16 * n → octet_at line (slot_at 0 f 16) ≡ slot16 xy v f
+  pub others : (f j : ℕ) → f < 16 * n → 1 ≤ j → j ≤ 31 → j ≢ 16 → octet_at line (slot_at 0 f j) ≡ get_or p (index_of f j) 0
 
 -- what is answered of n multiframes that were written with xy and v, and left in the output
 pub record SignalsBack (xy v : List ℕ) (n : ℕ) (r : Signalling) (out' : List ℕ) : Type 0 where
@@ -51,71 +51,71 @@ pub record SignalsBack (xy v : List ℕ) (n : ℕ) (r : Signalling) (out' : List
   pub abcd : take (30 * (n - 1)) out' ≡ drop 30 v
 
 -- slot 16 of the frames of a payload, in a row
-abbrev pub slot16Row : List ℕ → List ℕ
-slot16Row payload = tab (16 * multiframes payload) (λ f. get_or payload (index_of f 16) 0)
+abbrev pub slot16_row : List ℕ → List ℕ
+slot16_row payload = tab (16 * multiframes payload) (λ f. get_or payload (index_of f 16) 0)
 
 -- what is answered of an image at once, and left in the output, is what is heard of its row t frame by frame
 pub record HeardAlike (t : List ℕ) (r : Signalling) (out' : List ℕ) : Type 0 where
-  pub multiframes : r.multiframes ≡ (hearingOf t).multiframes
-  pub first : r.first ≡ (hearingOf t).first
-  pub losses : r.losses ≡ (hearingOf t).losses
-  pub held : r.held ≡ is_held (hearingOf t)
-  pub x0 : r.x0 ≡ xyOf (hearingOf t) / 8 % 2
-  pub x1 : r.x1 ≡ xyOf (hearingOf t) / 2 % 2
-  pub x2 : r.x2 ≡ xyOf (hearingOf t) % 2
-  pub y : r.y ≡ xyOf (hearingOf t) / 4 % 2
-  pub abcd : take (30 * r.multiframes) out' ≡ toldAlong nothing t
+  pub multiframes : r.multiframes ≡ (hearing_of t).multiframes
+  pub first : r.first ≡ (hearing_of t).first
+  pub losses : r.losses ≡ (hearing_of t).losses
+  pub held : r.held ≡ is_held (hearing_of t)
+  pub x0 : r.x0 ≡ xy_of (hearing_of t) / 8 % 2
+  pub x1 : r.x1 ≡ xy_of (hearing_of t) / 2 % 2
+  pub x2 : r.x2 ≡ xy_of (hearing_of t) % 2
+  pub y : r.y ≡ xy_of (hearing_of t) / 4 % 2
+  pub abcd : take (30 * r.multiframes) out' ≡ told_along nothing t
 
 pub record Signals : Type 0 where
   -- Reading. Each octet of the output is ABCD of a channel of the signalling multiframe that it belongs to
   pub octet : (s out : List ℕ) (r : Signalling) (out' : List ℕ) → Signalled s out r out' → r.number ≡ 0
       → (m c : ℕ) → m < r.multiframes → 1 ≤ c → c ≤ 30
-      → get_or out' (30 * m + (c - 1)) 0 ≡ abcdAt (slot16In s) (get_or r.starts m 0) c
+      → get_or out' (30 * m + (c - 1)) 0 ≡ abcd_at (slot16_in s) (get_or r.starts m 0) c
   -- no more than 15 are read of an image, so 450 octets always do
   pub fifteen : (s out : List ℕ) (r : Signalling) (out' : List ℕ) → Signalled s out r out' → r.multiframes ≤ 15
   -- The first alignment is at the first frame with the signal where the frame before has a 1, and 0 is answered exactly
   -- where there is none
-  pub first : (t : List ℕ) (n f : ℕ) → 1 ≤ f → firstIn t n ≡ f ↔ TakenFirst t n f
-  pub never : (t : List ℕ) (n : ℕ) → firstIn t n ≡ 0 ↔ ((f : ℕ) → f < n → Taken t f → ⊥)
+  pub first : (t : List ℕ) (n f : ℕ) → 1 ≤ f → first_in t n ≡ f ↔ TakenFirst t n f
+  pub never : (t : List ℕ) (n : ℕ) → first_in t n ≡ 0 ↔ ((f : ℕ) → f < n → Taken t f → ⊥)
   -- a loss is at the second wrong signal in a row, and nowhere else
   pub loss : (t : List ℕ) (f : ℕ) → loses t f ≡ true ↔ Lost t f
   -- after one wrong signal the next signalling multiframe is begun all the same
-  pub one-wrong : (t : List ℕ) (f : ℕ) → (walk t f).passed ≡ 16 → signalAt t (f - 16) ≡ true → walk t (f + 1) ≡ begun t f
+  pub one_wrong : (t : List ℕ) (f : ℕ) → (walk t f).passed ≡ 16 → signal_at t (f - 16) ≡ true → walk t (f + 1) ≡ begun t f
   -- after a loss at f alignment is taken at the first frame from f + 1 on where it can be
   pub again : (t : List ℕ) (f g : ℕ) → Lost t f → f < g → ((i : ℕ) → f < i → i < g → Taken t i → ⊥) → Taken t g
       → walk t (g + 1) ≡ begun t g
   -- each signalling multiframe that is read is whole, and none is read from a loss
-  pub whole : (t : List ℕ) (n m : ℕ) → m < readIn t n → get_or (startsIn t n) m 0 + 16 ≤ n
-  pub not-from-loss : (t : List ℕ) (n m : ℕ) → m < readIn t n → Lost t (get_or (startsIn t n) m 0) → ⊥
+  pub whole : (t : List ℕ) (n m : ℕ) → m < read_in t n → get_or (starts_in t n) m 0 + 16 ≤ n
+  pub not_from_loss : (t : List ℕ) (n m : ℕ) → m < read_in t n → Lost t (get_or (starts_in t n) m 0) → ⊥
   -- Hearing, frame by frame, a row of any length. Behind each frame all that is answered is known of the row so far,
   -- and where a signalling multiframe has just become whole, the frame with which it began and its channels
-  pub heard : (t : List ℕ) → Hears t (hearingOf t)
+  pub heard : (t : List ℕ) → Hears t (hearing_of t)
   -- the channels told so, one behind the other, are those of all that are read
-  pub told : (t : List ℕ) → toldAlong nothing t ≡ abcdIn t (length t)
+  pub told : (t : List ℕ) → told_along nothing t ≡ abcd_in t (length t)
   -- a row that comes in pieces is heard as one
   pub pieces : (t u : List ℕ)
-      → (hearingOf (t ++ u) ≡ afterRow (hearingOf t) u)
-      × (toldAlong nothing (t ++ u) ≡ toldAlong nothing t ++ toldAlong (hearingOf t) u)
+      → (hearing_of (t ++ u) ≡ after_row (hearing_of t) u)
+      × (told_along nothing (t ++ u) ≡ told_along nothing t ++ told_along (hearing_of t) u)
   -- whole multiframes of payload that leave one behind the other make one row
-  pub rows : (p q : List ℕ) (n : ℕ) → length p ≡ 496 * n → slot16Row (p ++ q) ≡ slot16Row p ++ slot16Row q
+  pub rows : (p q : List ℕ) (n : ℕ) → length p ≡ 496 * n → slot16_row (p ++ q) ≡ slot16_row p ++ slot16_row q
   -- that of an image is in the payload that is read, and heard it gives what is answered at once
-  pub in-payload : (s payload slot0 : List ℕ) (r : Reading) (payload' slot0' : List ℕ)
-      → Read s payload slot0 r payload' slot0' → r.number ≡ 0 → slot16Row (take (496 * r.used) payload') ≡ slot16In s
+  pub in_payload : (s payload slot0 : List ℕ) (r : Reading) (payload' slot0' : List ℕ)
+      → Read s payload slot0 r payload' slot0' → r.number ≡ 0 → slot16_row (take (496 * r.used) payload') ≡ slot16_in s
   pub alike : (s out : List ℕ) (r : Signalling) (out' : List ℕ) → Signalled s out r out' → r.number ≡ 0
-      → HeardAlike (slot16In s) r out'
+      → HeardAlike (slot16_in s) r out'
   -- Writing. It makes the standard's multiframes of the payload with slot 16 replaced
   pub writes : (p o : List ℕ) (c : ℕ) (xy v out : List ℕ) (r : Written) (out' : List ℕ) → ((i : ℕ) → get_or p i 0 < 256)
       → Wrote p o c xy v out r out' → r.number ≡ 0
       → (let line = take (512 * multiframes p) out' in
-      Standard line (withSlot16 p xy v) o c r.check (multiframes p) × SignalledLine line p xy v (multiframes p))
+      Standard line (with_slot16 p xy v) o c r.check (multiframes p) × SignalledLine line p xy v (multiframes p))
   -- four multiframes or more, read again: payload with slot 16 replaced, overhead, and signalling are back
-  pub reads-back : (p o : List ℕ) (c : ℕ) (xy v out : List ℕ) (w : Written) (out' : List ℕ) → ((i : ℕ) → get_or p i 0 < 256)
+  pub reads_back : (p o : List ℕ) (c : ℕ) (xy v out : List ℕ) (w : Written) (out' : List ℕ) → ((i : ℕ) → get_or p i 0 < 256)
       → Wrote p o c xy v out w out' → w.number ≡ 0 → 4 ≤ multiframes p
       → (payload slot0 : List ℕ) (r : Reading) (payload' slot0' : List ℕ) → 496 * multiframes p ≤ length payload
       → 16 * multiframes p ≤ length slot0
       → Read (take (512 * multiframes p) out') payload slot0 r payload' slot0'
-      → ReadBack (withSlot16 p xy v) o (multiframes p) r payload' slot0'
-  pub signals-back : (p o : List ℕ) (c : ℕ) (xy v out : List ℕ) (w : Written) (out' : List ℕ) → ((i : ℕ) → get_or p i 0 < 256)
+      → ReadBack (with_slot16 p xy v) o (multiframes p) r payload' slot0'
+  pub signals_back : (p o : List ℕ) (c : ℕ) (xy v out : List ℕ) (w : Written) (out' : List ℕ) → ((i : ℕ) → get_or p i 0 < 256)
       → Wrote p o c xy v out w out' → w.number ≡ 0 → 4 ≤ multiframes p
       → (buffer : List ℕ) (r : Signalling) (buffer' : List ℕ) → 30 * (multiframes p - 1) ≤ length buffer
       → Signalled (take (512 * multiframes p) out') buffer r buffer'
@@ -123,6 +123,6 @@ pub record Signals : Type 0 where
   -- It is the refusal of ABCD 0000 that makes it so: by it every frame but frame 0 of each signalling multiframe has a 1
   -- among its high four bits, so the frame before a signal has a 1, and no other frame has the signal. With zeros for ABCD
   -- alignment is taken one frame late, which is case 17 of `Bench`.
-  pub one-before : (p o : List ℕ) (c : ℕ) (xy v out : List ℕ) (w : Written) (out' : List ℕ)
+  pub one_before : (p o : List ℕ) (c : ℕ) (xy v out : List ℕ) (w : Written) (out' : List ℕ)
       → Wrote p o c xy v out w out' → w.number ≡ 0
       → (f : ℕ) → f < 16 * multiframes p → f % 16 ≢ 0 → 16 ≤ slot16 xy v f

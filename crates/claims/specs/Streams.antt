@@ -2,15 +2,15 @@
 use Rattle.std.specs.Prelude.{ℕ, ◌+◌, ◌-◌, ◌*◌, ◌/◌, ◌≤◌, ◌<◌, ◌≡◌, true, false, List, [], ◌++◌, ◌↔◌, ◌≢◌, length, take, drop}
 use Rattle.base.specs.Answer.{accepted}
 use Rattle.base.specs.Tab.{tab}
-use Rattle.line.specs.Bit.{bit_at, octetAt}
+use Rattle.line.specs.Bit.{bit_at, octet_at}
 use Rattle.align.specs.Place.{number_of, start_of}
 use Rattle.align.specs.Stands.{Basic, BasicFirst, Stands}
 use Rattle.read.specs.Entry.{GoodLength, Read}
 use Rattle.read.specs.declared.Reading.{Reading}
 use Rattle.growth.specs.Growth.{fed, after}
 use Rattle.growth.specs.declared.Line.{Line}
-use Rattle.stream.specs.Entry.{is_over, octetsCame, feedRefusal, ending, Feeds}
-use Rattle.stream.specs.Runs.{Call, chunk, end, Run, begun, called, run, lineReading, linePayload, lineSlot0}
+use Rattle.stream.specs.Entry.{is_over, octets_came, feed_refusal, ending, Feeds}
+use Rattle.stream.specs.Runs.{Call, chunk, end, Run, begun, called, run, line_reading, line_payload, line_slot0}
 use Rattle.stream.specs.declared.Stream.{Stream}
 use Rattle.stream.specs.declared.Fed.{Fed}
 use Rattle.claims.specs.Counts.{Agrees}
@@ -34,7 +34,7 @@ pub record Steps (r : Run) (t : List ℕ) (f : Fed) (window' payload' slot0' : L
 
 -- what is held of the joined line: its last octets
 pub record HoldsLast (r : Run) : Type 0 where
-  pub octets : octetsCame r.stream ≡ length r.line
+  pub octets : octets_came r.stream ≡ length r.line
   pub last : take r.stream.fill r.window ≡ drop r.stream.line.before r.line
   pub window : length r.window ≡ 2048
   pub most : r.stream.fill ≤ 2048
@@ -48,7 +48,7 @@ pub record HoldsLast (r : Run) : Type 0 where
 
 -- n multiframes of a line from its start q on, as an image
 unfoldable pub cut_at : List ℕ → ℕ → ℕ → List ℕ
-cut_at s q n = tab (512 * n) (λ i. octetAt s (q + 8 * i))
+cut_at s q n = tab (512 * n) (λ i. octet_at s (q + 8 * i))
 
 -- every block of them but the last agrees with the check carried in the next
 abbrev pub AgreeingFrom : List ℕ → ℕ → ℕ → Type 0
@@ -78,24 +78,24 @@ pub record Streams : Type 0 where
         slot0 = r.slot0;
       }
   -- After any calls, refused ones among them, an end answers what is said of the joined line
-  pub ends : (r : Run) → Reached r → (ending r.stream).reading ≡ lineReading r.stream.ended r.line
+  pub ends : (r : Run) → Reached r → (ending r.stream).reading ≡ line_reading r.stream.ended r.line
   -- and all used multiframes of it have left, with nothing else
-  pub left : (r : Run) → Reached r → (r.payload ≡ linePayload r.line) × (r.slot0 ≡ lineSlot0 r.line)
+  pub left : (r : Run) → Reached r → (r.payload ≡ line_payload r.line) × (r.slot0 ≡ line_slot0 r.line)
   -- In the words of Demand 2 that is the first place that stands, every count and every octet of the joined line;
   pub reads : (r : Run) → Reached r → (ending r.stream).reading.number ≡ 0
       → Accepted r.line [] [] (ending r.stream).reading r.payload r.slot0
   -- with 3 exactly when no place with room has basic alignment, with 15 exactly when one has, and none stands; and the
   -- place beside 15 is the first such
-  pub no-basic : (r : Run) → Reached r → r.stream.ended ≡ false → 2048 ≤ length r.line
+  pub no_basic : (r : Run) → Reached r → r.stream.ended ≡ false → 2048 ≤ length r.line
       → (ending r.stream).reading.number ≡ 3
       ↔ ((p : ℕ) → p + 16384 ≤ 8 * length r.line → Basic r.line p → ⊥)
-  pub basic-only : (r : Run) → Reached r → r.stream.ended ≡ false → 2048 ≤ length r.line
+  pub basic_only : (r : Run) → Reached r → r.stream.ended ≡ false → 2048 ≤ length r.line
       → (ending r.stream).reading.number ≡ 15
       ↔ ((p : ℕ) × BasicFirst r.line p) × ((p k : ℕ) → Stands r.line p k → ⊥)
-  pub basic-place : (r : Run) → Reached r → (ending r.stream).reading.number ≡ 15
+  pub basic_place : (r : Run) → Reached r → (ending r.stream).reading.number ≡ 15
       → BasicFirst r.line (ending r.stream).reading.place
   -- so two runs that join the same line, ended both or neither, answer the same end, and the same has left
-  pub cut-anywhere : (r r' : Run) → Reached r → Reached r' → r.line ≡ r'.line → r.stream.ended ≡ r'.stream.ended
+  pub cut_anywhere : (r r' : Run) → Reached r → Reached r' → r.line ≡ r'.line → r.stream.ended ≡ r'.stream.ended
       → ((ending r.stream).reading ≡ (ending r'.stream).reading)
       × (r.payload ≡ r'.payload)
       × (r.slot0 ≡ r'.slot0)
@@ -117,7 +117,7 @@ pub record Streams : Type 0 where
   pub held : (r : Run) → Reached r → HoldsLast r
   -- with room for n / 512 + 4 multiframes a chunk of n octets never lacks any, whatever the stream
   pub room : (st : Stream) (window t : List ℕ) (a b : ℕ)
-      → 496 * (length t / 512 + 4) ≤ a → 16 * (length t / 512 + 4) ≤ b → feedRefusal st window t a b ≢ 4
+      → 496 * (length t / 512 + 4) ≤ a → 16 * (length t / 512 + 4) ≤ b → feed_refusal st window t a b ≢ 4
   -- Demand 3. Multiframes that are cut out of a line at its start are an aligned image with the line's bits,
   pub aligned : (s : List ℕ) (q n : ℕ) → 1 ≤ n
       → Aligned (cut_at s q n) n × ((p : ℕ) → p < 4096 * n → bit_at (cut_at s q n) p ≡ bit_at s (q + p))

@@ -16,23 +16,23 @@ use Rattle.claims.specs.Demand3.{Aligned}
 -- on T1.
 
 -- its bit i is a data bit
-abbrev pub isData : ℕ → ℕ → Bool
-isData d i = not (eqb (i % d) 0)
+abbrev pub is_data : ℕ → ℕ → Bool
+is_data d i = not (eqb (i % d) 0)
 
 -- t is s with two data bits turned over, i and j of the block at q, and with nothing else changed
 pub record HitTwice (n d : ℕ) (s t : List ℕ) (q i j : ℕ) : Type 0 where
   pub two : i ≢ j
-  pub i-in : i < n
-  pub j-in : j < n
-  pub i-data : isData d i ≡ true
-  pub j-data : isData d j ≡ true
-  pub i-hit : bit_at s (q + i) ≢ bit_at t (q + i)
-  pub j-hit : bit_at s (q + j) ≢ bit_at t (q + j)
+  pub i_in : i < n
+  pub j_in : j < n
+  pub i_data : is_data d i ≡ true
+  pub j_data : is_data d j ≡ true
+  pub i_hit : bit_at s (q + i) ≢ bit_at t (q + i)
+  pub j_hit : bit_at s (q + j) ≢ bit_at t (q + j)
   pub others : (p : ℕ) → p ≢ q + i → p ≢ q + j → bit_at s p ≡ bit_at t p
 
 -- how many pairs of its data bits have a distance that passes the test
-unfoldable pub dataPairs : ℕ → ℕ → (ℕ → Bool) → ℕ
-dataPairs n d t = sum n (λ j. count j (λ i. isData d i && (isData d j && t (distance i j))))
+unfoldable pub data_pairs : ℕ → ℕ → (ℕ → Bool) → ℕ
+data_pairs n d t = sum n (λ j. count j (λ i. is_data d i && (is_data d j && t (distance i j))))
 
 pub record TwoHits : Type 0 where
   -- Take an aligned image of n multiframes, and a block b of it that is not the last and agrees. Turn over two of its data
@@ -55,7 +55,7 @@ pub record TwoHits : Type 0 where
       → (b i j : ℕ) → b < r.compared → Agrees s r.start b → HitTwice 2048 512 s t (r.start + 2048 * b) i j
       → r'.errored ≡ r.errored + (if eqb (distance i j % 15) 0 then 0 else 1)
   -- with both behind the compared blocks it counts as many.
-  pub read-last : (s payload slot0 : List ℕ) (r : Reading) (payload' slot0' : List ℕ)
+  pub read_last : (s payload slot0 : List ℕ) (r : Reading) (payload' slot0' : List ℕ)
       → Read s payload slot0 r payload' slot0' → r.number ≡ 0
       → (t payload-t slot0-t : List ℕ) (r' : Reading) (payload-t' slot0-t' : List ℕ)
       → Read t payload-t slot0-t r' payload-t' slot0-t' → r'.number ≡ 0
@@ -63,5 +63,5 @@ pub record TwoHits : Type 0 where
       → (b i j : ℕ) → r.compared ≤ b → HitTwice 2048 512 s t (r.start + 2048 * b) i j
       → r'.errored ≡ r.errored
   -- A block has so many pairs of data bits, and so many a multiple of 15 apart, which by `seen` go unseen.
-  pub all-pairs : dataPairs 2048 512 (λ m. true) ≡ 2087946
-  pub hidden-pairs : dataPairs 2048 512 (λ m. eqb (m % 15) 0) ≡ 138244
+  pub all_pairs : data_pairs 2048 512 (λ m. true) ≡ 2087946
+  pub hidden_pairs : data_pairs 2048 512 (λ m. eqb (m % 15) 0) ≡ 138244

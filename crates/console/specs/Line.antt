@@ -7,15 +7,15 @@ use Rattle.console.specs.declared.parse.Asked.TheVariants.{Key, Host, Boundary, 
 use Rattle.console.specs.declared.parse.Asked.TheVariants.{Wrong, Nothing, Quit}
 
 -- how many octets a host record has
-abbrev pub octetCount : Asked → ℕ
-octetCount (Key p) = 0
-octetCount (Host n) = n
-octetCount Boundary = 0
-octetCount (Show c) = 0
-octetCount Picture = 0
-octetCount (Wrong w) = 0
-octetCount Nothing = 0
-octetCount Quit = 0
+abbrev pub octet_count : Asked → ℕ
+octet_count (Key p) = 0
+octet_count (Host n) = n
+octet_count Boundary = 0
+octet_count (Show c) = 0
+octet_count Picture = 0
+octet_count (Wrong w) = 0
+octet_count Nothing = 0
+octet_count Quit = 0
 
 -- t is s, or what one call of the machine leaves of s
 abbrev pub Follows : State → State → Type 0

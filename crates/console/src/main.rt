@@ -5,7 +5,7 @@ mod tell;
 
 ghost use Rattle.std.specs.Prelude.{◌≤◌, length};
 ghost use Rattle.io.specs.Counts.{IsPrefixLen};
-ghost use Rattle.console.specs.Line.{octetCount, Follows};
+ghost use Rattle.console.specs.Line.{octet_count, Follows};
 
 use exchange::{Answered, State};
 use parse::Asked;
@@ -59,7 +59,7 @@ fn read_line(fd: i32, name: &[u8], line: &mut [u8]) -> Typed
 
 // the answer to the call that a line asks for; a line that asks for none leaves the state as it is
 fn called(state: State, asked: Asked, octets: &[u8]) -> Answered
-    requires { octetCount asked ≤ length octets.now }
+    requires { octet_count asked ≤ length octets.now }
     ensures { Follows state result.state }
 {
     match asked {

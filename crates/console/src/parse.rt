@@ -1,7 +1,7 @@
 // What a line asks for.
 ghost use Rattle.std.specs.Prelude.{◌≤◌, length};
 ghost use Rattle.io.specs.Counts.{IsPrefixLen};
-ghost use Rattle.console.specs.Line.{octetCount};
+ghost use Rattle.console.specs.Line.{octet_count};
 
 use program::text::{line_of, numbers, skip};
 
@@ -91,7 +91,7 @@ fn slot(x: u64) -> u64 {
 // a host record by its octets, the first n numbers of a row
 fn record(row: &[u64; 8], n: usize, octets: &mut [u8]) -> Asked
     requires { 8 ≤ length octets.old }
-    ensures { IsPrefixLen (octetCount result) octets.new }
+    ensures { IsPrefixLen (octet_count result) octets.new }
 {
     if n > 8 {
         return Asked::Wrong(RECORD);
@@ -109,7 +109,7 @@ fn record(row: &[u64; 8], n: usize, octets: &mut [u8]) -> Asked
 // what a command asks for, with the n numbers of a row behind it
 fn meaning(command: usize, row: &[u64; 8], n: usize, octets: &mut [u8]) -> Asked
     requires { 8 ≤ length octets.old }
-    ensures { IsPrefixLen (octetCount result) octets.new }
+    ensures { IsPrefixLen (octet_count result) octets.new }
 {
     if !takes(command, n) {
         return Asked::Wrong(command);
@@ -142,7 +142,7 @@ pub fn second_word(s: &[u8]) -> usize
 // what a line asks for; the octets of a host record go where they are lent
 pub fn line(s: &[u8], octets: &mut [u8]) -> Asked
     requires { 8 ≤ length octets.old }
-    ensures { IsPrefixLen (octetCount result) octets.new }
+    ensures { IsPrefixLen (octet_count result) octets.new }
 {
     let a = skip(s, 0, true);
     if a < s.len() && s[a] == b'#' {

@@ -2,12 +2,12 @@
 use Rattle.std.specs.Prelude.{ℕ, zero, suc, ◌≡◌, List}
 use Rattle.std.specs.Int.Bits.{bit_xor}
 use Rattle.base.specs.Tab.{tab}
-use Rattle.line.specs.Bit.{octetBits}
+use Rattle.line.specs.Bit.{octet_bits}
 use Rattle.crc.specs.Remainder.{zeros, after}
 
 -- for each remainder and octet the remainder after those eight bits
 unfoldable pub remainders : List (List ℕ)
-remainders = tab 16 (λ r. tab 256 (λ o. after 4 r (octetBits o)))
+remainders = tab 16 (λ r. tab 256 (λ o. after 4 r (octet_bits o)))
 
 -- the sum of f 0 to f (n - 1), as polynomials
 unfoldable pub xors : ℕ → (ℕ → ℕ) → ℕ

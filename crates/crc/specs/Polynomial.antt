@@ -9,5 +9,5 @@ poly v [] = v
 poly v (b ∷ bs) = poly (2 * v + b) bs
 
 -- q (x^w + x + 1)
-unfoldable pub timesGen : ℕ → ℕ → ℕ
-timesGen w q = bit_xor (q * 2 ^ w) (bit_xor (2 * q) q)
+unfoldable pub times_gen : ℕ → ℕ → ℕ
+times_gen w q = bit_xor (q * 2 ^ w) (bit_xor (2 * q) q)

@@ -5,8 +5,8 @@ use Rattle.base.specs.Choice.{if◌then◌else◌}
 use Rattle.base.specs.Tab.{tab}
 
 -- bit i as the check reads it
-unfoldable pub readAs : ℕ → ℕ → (ℕ → ℕ) → ℕ → ℕ
-readAs d b f i = if eqb (i % d) 0 then b else f i
+unfoldable pub read_as : ℕ → ℕ → (ℕ → ℕ) → ℕ → ℕ
+read_as d b f i = if eqb (i % d) 0 then b else f i
 
 unfoldable pub striped : ℕ → ℕ → ℕ → (ℕ → ℕ) → List ℕ
-striped n d b f = tab n (readAs d b f)
+striped n d b f = tab n (read_as d b f)

@@ -11,5 +11,5 @@ unfoldable pub remainder : ℕ → ℕ → ℕ → ℕ
 remainder w n x = after w 0 (tab n (digit n x))
 
 -- and of the 128 digits of two words
-abbrev pub wideRemainder : ℕ → Wide → ℕ
-wideRemainder w a = remainder w 128 (a.high * 2 ^ 64 + a.low)
+abbrev pub wide_remainder : ℕ → Wide → ℕ
+wide_remainder w a = remainder w 128 (a.high * 2 ^ 64 + a.low)

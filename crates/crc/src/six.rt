@@ -5,7 +5,7 @@ ghost use Rattle.base.specs.Tab.{tab};
 ghost use Rattle.line.specs.Spelt.{digit};
 ghost use Rattle.crc.specs.Remainder.{zeros, after};
 ghost use Rattle.crc.specs.Fold.{Lowers};
-ghost use Rattle.crc.specs.Word.{remainder, wideRemainder};
+ghost use Rattle.crc.specs.Word.{remainder, wide_remainder};
 
 // a number of two words, which stands for its remainder
 #[derive(Drop)]
@@ -17,7 +17,7 @@ pub struct Wide {
 // after the 64 digits of w: twice the number, as x^64 counts for x
 pub fn after_word(a: Wide, w: u64) -> Wide
     requires { a.high < 2 ^ 63 }
-    ensures { (wideRemainder 6 result ≡ after 6 (wideRemainder 6 a) (tab 64 (digit 64 w)))
+    ensures { (wide_remainder 6 result ≡ after 6 (wide_remainder 6 a) (tab 64 (digit 64 w)))
         × (result.high ≤ 2 * a.high + 1) }
 {
     Wide {
@@ -29,7 +29,7 @@ pub fn after_word(a: Wide, w: u64) -> Wide
 // one word that stands for the same
 pub fn narrowed(a: Wide) -> u64
     requires { a.high < 2 ^ 63 }
-    ensures { remainder 6 64 result ≡ wideRemainder 6 a }
+    ensures { remainder 6 64 result ≡ wide_remainder 6 a }
 {
     (a.high << 1) ^ a.low
 }

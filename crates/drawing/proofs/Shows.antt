@@ -5,8 +5,8 @@ use mathlib.Core.List.{List}
 use native.Mathlib.Omega.{arith}
 use lib.ListN.{length}
 use Rattle.measure.specs.Reading.{compared}
-use Rattle.read.specs.Entry.{Read, accept, place_in, start_in, wholeIn, usedIn}
-use Rattle.read.proofs.EntryLaws.{ready, read_number, read-accepted}
+use Rattle.read.specs.Entry.{Read, accept, place_in, start_in, whole_in, used_in}
+use Rattle.read.proofs.EntryLaws.{ready, read_number, read_accepted}
 use Rattle.read.specs.declared.Reading.{Reading}
 use Rattle.drawing.specs.Shown.{Shown}
 
@@ -15,16 +15,16 @@ pub shows : (s payload slot0 : List ℕ) (r : Reading) (p o : List ℕ)
 unfolding accept
 shows s payload slot0 r p o h e =
     let d = ready s (length payload) (length slot0) (sym (read_number s payload slot0 r p o h) ∙ e) in
-    let a = read-accepted s payload slot0 r p o h e in
+    let a = read_accepted s payload slot0 r p o h e in
     let place : r.place ≡ place_in s = ap (λ (x : Reading). x.place) a in
     let start : r.start ≡ start_in s = ap (λ (x : Reading). x.start) a in
-    let whole : r.whole ≡ wholeIn s = ap (λ (x : Reading). x.whole) a in
-    let used : r.used ≡ usedIn s = ap (λ (x : Reading). x.used) a in
+    let whole : r.whole ≡ whole_in s = ap (λ (x : Reading). x.whole) a in
+    let used : r.used ≡ used_in s = ap (λ (x : Reading). x.used) a in
     record {
       long = d.good.long;
       short = d.good.short;
       found = omega (arith, d.start);
       fits = omega (arith, d.whole);
-      before-loss = omega (arith, d.used);
+      before_loss = omega (arith, d.used);
       all_but_last = ap (λ (x : Reading). x.compared) a ∙ ap compared (sym used);
     }

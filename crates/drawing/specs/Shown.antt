@@ -8,5 +8,5 @@ pub record Shown (octets : ℕ) (r : Reading) : Type 0 where
   pub short : octets ≤ 8192
   pub found : r.place ≤ r.start
   pub fits : r.start + 4096 * r.whole ≤ 8 * octets
-  pub before-loss : r.used ≤ r.whole
+  pub before_loss : r.used ≤ r.whole
   pub all_but_last : r.compared ≡ compared r.used

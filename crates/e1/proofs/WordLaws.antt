@@ -12,29 +12,29 @@ use lib.Bits.{bit_xor, xor_lt}
 use lib.Count.{ones, count_leading_zeros}
 use lib.Dec.{eqb, lit<}
 use lib.ListN.{get_or}
-use Rattle.base.specs.Choice.{valueOr}
+use Rattle.base.specs.Choice.{value_or}
 use Rattle.base.specs.Tab.{least}
-use Rattle.base.proofs.TabLaws.{sum-zero, sum-none, count-le, Least, least-some, least-none}
+use Rattle.base.proofs.TabLaws.{sum_zero, sum_none, count_le, Least, least_some, least_none}
 use Rattle.line.specs.Bit.{bit_at, field}
 use Rattle.line.specs.Spelt.{spelt}
-use Rattle.line.proofs.BitLaws.{bit-lt, field_lt}
-use Rattle.line.proofs.SpeltLaws.{spelt-agree}
-use Rattle.line.proofs.OnesLaws.{ones-differ, leading-differ, leading_wider}
+use Rattle.line.proofs.BitLaws.{bit_lt, field_lt}
+use Rattle.line.proofs.SpeltLaws.{spelt_agree}
+use Rattle.line.proofs.OnesLaws.{ones_differ, leading_differ, leading_wider}
 use Rattle.crc.specs.Remainder.{Bits}
-use Rattle.e1.specs.Frame.{alignment, wrongBit, wrongBits, word_at, firstWrong}
+use Rattle.e1.specs.Frame.{alignment, wrong_bit, wrong_bits, word_at, first_wrong}
 
-alignment-bits : Bits alignment
-alignment-bits zero = lit< tt
-alignment-bits (suc zero) = lit< tt
-alignment-bits (suc (suc zero)) = lit< tt
-alignment-bits (suc (suc (suc zero))) = lit< tt
-alignment-bits (suc (suc (suc (suc zero)))) = lit< tt
-alignment-bits (suc (suc (suc (suc (suc zero))))) = lit< tt
-alignment-bits (suc (suc (suc (suc (suc (suc zero)))))) = lit< tt
-alignment-bits (suc (suc (suc (suc (suc (suc (suc i))))))) = lit< tt
+alignment_bits : Bits alignment
+alignment_bits zero = lit< tt
+alignment_bits (suc zero) = lit< tt
+alignment_bits (suc (suc zero)) = lit< tt
+alignment_bits (suc (suc (suc zero))) = lit< tt
+alignment_bits (suc (suc (suc (suc zero)))) = lit< tt
+alignment_bits (suc (suc (suc (suc (suc zero))))) = lit< tt
+alignment_bits (suc (suc (suc (suc (suc (suc zero)))))) = lit< tt
+alignment_bits (suc (suc (suc (suc (suc (suc (suc i))))))) = lit< tt
 
-right-bit : (x y : ℕ) → ◌≡◌ {A = ℕ} (cond (not (eqb x y)) 1 0) 0 → x ≡ y
-right-bit x y e = go (eqb x y) refl e
+right_bit : (x y : ℕ) → ◌≡◌ {A = ℕ} (cond (not (eqb x y)) 1 0) 0 → x ≡ y
+right_bit x y e = go (eqb x y) refl e
   where
     go : (b : Bool) → eqb x y ≡ b → ◌≡◌ {A = ℕ} (cond (not b) 1 0) 0 → x ≡ y
     go true t e = eqb-true x y t
@@ -42,55 +42,55 @@ right-bit x y e = go (eqb x y) refl e
 
 module _ (s : List ℕ) (q : ℕ) where
   -- as the code counts them
-  pub wrong-ones : ones (bit_xor (field s (q + 1) 7) 27) ≡ wrongBits s q
-  unfolding wrongBits field spelt
-  wrong-ones = ones-differ 7 (λ i. bit_at s (q + 1 + i)) (λ i. get_or alignment i 0) (λ i. bit-lt s (q + 1 + i)) alignment-bits
+  pub wrong_ones : ones (bit_xor (field s (q + 1) 7) 27) ≡ wrong_bits s q
+  unfolding wrong_bits field spelt
+  wrong_ones = ones_differ 7 (λ i. bit_at s (q + 1 + i)) (λ i. get_or alignment i 0) (λ i. bit_lt s (q + 1 + i)) alignment_bits
 
-  pub wrong-most : wrongBits s q ≤ 7
-  unfolding wrongBits
-  wrong-most = count-le 7 (wrongBit s q)
+  pub wrong_most : wrong_bits s q ≤ 7
+  unfolding wrong_bits
+  wrong_most = count_le 7 (wrong_bit s q)
 
   -- the word of which no bit is wrong is 0011011
   pub word_holds : word_at s q ≡ true ↔ field s (q + 1) 7 ≡ 27
-  unfolding wrongBits field spelt ones
+  unfolding wrong_bits field spelt ones
   word_holds = (there, back)
     where
       there : word_at s q ≡ true → field s (q + 1) 7 ≡ 27
       there e =
-          let none = sum-zero 7 (λ i. cond (wrongBit s q i) 1 0) (eqb-true _ _ e) in
-          spelt-agree 7 (λ i. bit_at s (q + 1 + i)) (λ i. get_or alignment i 0) (λ i h. right-bit _ _ (none i h))
+          let none = sum_zero 7 (λ i. cond (wrong_bit s q i) 1 0) (eqb-true _ _ e) in
+          spelt_agree 7 (λ i. bit_at s (q + 1 + i)) (λ i. get_or alignment i 0) (λ i h. right_bit _ _ (none i h))
 
       back : field s (q + 1) 7 ≡ 27 → word_at s q ≡ true
-      back e = eq-eqb _ _ (sym wrong-ones ∙ ap (λ x. ones (bit_xor x 27)) e ∙ refl)
+      back e = eq-eqb _ _ (sym wrong_ones ∙ ap (λ x. ones (bit_xor x 27)) e ∙ refl)
 
   -- the first of them, as the code finds it: a word has seven bits of its octet
-  pub first-zeros : q + count_leading_zeros 8 (bit_xor (field s (q + 1) 7) 27) ≡ firstWrong s q
-  unfolding firstWrong field spelt
-  first-zeros =
+  pub first_zeros : q + count_leading_zeros 8 (bit_xor (field s (q + 1) 7) 27) ≡ first_wrong s q
+  unfolding first_wrong field spelt
+  first_zeros =
       ap (λ n. q + n)
       (leading_wider 7 _ (xor_lt 7 (field s (q + 1) 7) 27 (field_lt s (q + 1) 7) (lit< tt))
-      ∙ ap (λ n. n + 1) (leading-differ 7 (λ i. bit_at s (q + 1 + i)) (λ i. get_or alignment i 0) (λ i. bit-lt s (q + 1 + i)) alignment-bits))
+      ∙ ap (λ n. n + 1) (leading_differ 7 (λ i. bit_at s (q + 1 + i)) (λ i. get_or alignment i 0) (λ i. bit_lt s (q + 1 + i)) alignment_bits))
       ∙ omega arith
 
   -- a word that is wrong has it
-  pub first-wrong : word_at s q ≡ false → (i : ℕ) × Least 7 (wrongBit s q) i × (firstWrong s q ≡ q + 1 + i)
-  unfolding firstWrong wrongBits
-  first-wrong e = go (least 7 (wrongBit s q)) refl
+  pub first_wrong_lem : word_at s q ≡ false → (i : ℕ) × Least 7 (wrong_bit s q) i × (first_wrong s q ≡ q + 1 + i)
+  unfolding first_wrong wrong_bits
+  first_wrong_lem e = go (least 7 (wrong_bit s q)) refl
     where
-      go : (o : Option ℕ) → least 7 (wrongBit s q) ≡ o → (i : ℕ) × Least 7 (wrongBit s q) i × (q + 1 + valueOr o 7 ≡ q + 1 + i)
-      go (some i) h = (i, (least-some 7 (wrongBit s q) i).0 h, refl)
+      go : (o : Option ℕ) → least 7 (wrong_bit s q) ≡ o → (i : ℕ) × Least 7 (wrong_bit s q) i × (q + 1 + value_or o 7 ≡ q + 1 + i)
+      go (some i) h = (i, (least_some 7 (wrong_bit s q) i).0 h, refl)
       go none h =
-          let right = least-none 7 (wrongBit s q) h in
-          let zeros = sum-none 7 (λ i. cond (wrongBit s q i) 1 0) (λ i l. ap (λ b. cond b 1 0) (right i l)) in
+          let right = least_none 7 (wrong_bit s q) h in
+          let zeros = sum_none 7 (λ i. cond (wrong_bit s q i) 1 0) (λ i l. ap (λ b. cond b 1 0) (right i l)) in
           absurd (true≢false (sym (eq-eqb _ _ zeros) ∙ e))
 
   -- and what is the first wrong bit is this one
-  pub first-only : (i : ℕ) → Least 7 (wrongBit s q) i → (word_at s q ≡ false) × (firstWrong s q ≡ q + 1 + i)
-  unfolding firstWrong wrongBits
-  first-only i h = (eq-false_of_not-eq-true some-bit, ap (λ o. q + 1 + valueOr o 7) ((least-some 7 (wrongBit s q) i).1 h))
+  pub first_only : (i : ℕ) → Least 7 (wrong_bit s q) i → (word_at s q ≡ false) × (first_wrong s q ≡ q + 1 + i)
+  unfolding first_wrong wrong_bits
+  first_only i h = (eq-false_of_not-eq-true some_bit, ap (λ o. q + 1 + value_or o 7) ((least_some 7 (wrong_bit s q) i).1 h))
     where
-      some-bit : word_at s q ≡ true → ⊥
-      some-bit e =
-          let none-wrong = sum-zero 7 (λ i. cond (wrongBit s q i) 1 0) (eqb-true _ _ e) i h.below in
+      some_bit : word_at s q ≡ true → ⊥
+      some_bit e =
+          let none-wrong = sum_zero 7 (λ i. cond (wrong_bit s q i) 1 0) (eqb-true _ _ e) i h.below in
           let one : ◌≡◌ {A = ℕ} 1 0 = sym (ap (λ b. cond b 1 0) h.passes) ∙ none-wrong in
           omega arith

@@ -4,11 +4,11 @@ use Rattle.std.specs.Prelude.{ℕ, ◌+◌, ◌*◌, Bool, List, eqb}
 use Rattle.line.specs.Bit.{bit_at}
 use Rattle.line.specs.Spelt.{spelt}
 use Rattle.crc.specs.Remainder.{check}
-use Rattle.crc.specs.Striped.{readAs, striped}
+use Rattle.crc.specs.Striped.{read_as, striped}
 
 -- bit i of the block: its check bits, bit 1 of its frames 0, 2, 4 and 6, are read as 0; all others are data bits
-abbrev pub blockBit : List ℕ → ℕ → ℕ → ℕ
-blockBit s q = readAs 512 0 (λ i. bit_at s (q + i))
+abbrev pub block_bit : List ℕ → ℕ → ℕ → ℕ
+block_bit s q = read_as 512 0 (λ i. bit_at s (q + i))
 
 abbrev pub block_bits : List ℕ → ℕ → List ℕ
 block_bits s q = striped 2048 512 0 (λ i. bit_at s (q + i))

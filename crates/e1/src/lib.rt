@@ -1,16 +1,16 @@
 // Frames, blocks and the payload of an E1 line.
 ghost use Rattle.std.specs.Prelude.{◌≡◌, [], ◌∷◌, ◌+◌, ◌*◌, ◌<◌, ◌≤◌};
-ghost use Rattle.line.specs.Bit.{Room, octetBits};
+ghost use Rattle.line.specs.Bit.{Room, octet_bits};
 ghost use Rattle.line.specs.Spelt.{digit};
 ghost use Rattle.crc.specs.Fold.{remainders};
-ghost use Rattle.e1.specs.Frame.{wrongBits, word_at, firstWrong};
+ghost use Rattle.e1.specs.Frame.{wrong_bits, word_at, first_wrong};
 ghost use Rattle.e1.specs.Block.{block_check, carried, agrees};
 ghost use Rattle.e1.specs.Payload.{sized};
 
 // the word in the frame at q judged: how many of its seven bits are wrong
 pub fn wrong_bits(s: &[u8], q: usize) -> u32
     requires { Room s.now q 8 }
-    ensures { (result ≡ wrongBits s.now q) × (result ≤ 7) }
+    ensures { (result ≡ wrong_bits s.now q) × (result ≤ 7) }
 {
     u8::count_ones(line::word(s, q) ^ 27)
 }
@@ -26,7 +26,7 @@ pub fn is_word(s: &[u8], q: usize) -> bool
 // how far on from q its first wrong bit is: as far as the exclusive or has zeros in front
 fn zeros_before(s: &[u8], q: usize) -> u32
     requires { Room s.now q 8 }
-    ensures { (q + result ≡ firstWrong s.now q) × (result ≤ 8) }
+    ensures { (q + result ≡ first_wrong s.now q) × (result ≤ 8) }
 {
     u8::leading_zeros(line::word(s, q) ^ 27)
 }
@@ -34,7 +34,7 @@ fn zeros_before(s: &[u8], q: usize) -> u32
 // the place of its first wrong bit; where none is wrong, of the bit behind the word
 pub fn first_wrong(s: &[u8], q: usize) -> usize
     requires { Room s.now q 8 }
-    ensures { result ≡ firstWrong s.now q }
+    ensures { result ≡ first_wrong s.now q }
 {
     q + zeros_before(s, q) as usize
 }
@@ -42,7 +42,7 @@ pub fn first_wrong(s: &[u8], q: usize) -> usize
 // the check c with a 0 behind each bit: x^512 counts for x^2, so in the last octet of the block that carries c its bits
 // weigh what they do in their places
 fn spaced(c: u8) -> u8
-    ensures { octetBits result ≡ digit 4 c 0 ∷ 0 ∷ digit 4 c 1 ∷ 0 ∷ digit 4 c 2 ∷ 0 ∷ digit 4 c 3 ∷ 0 ∷ [] }
+    ensures { octet_bits result ≡ digit 4 c 0 ∷ 0 ∷ digit 4 c 1 ∷ 0 ∷ digit 4 c 2 ∷ 0 ∷ digit 4 c 3 ∷ 0 ∷ [] }
 {
     128 * (c / 8 % 2) + 32 * (c / 4 % 2) + 8 * (c / 2 % 2) + 2 * (c % 2)
 }

@@ -2,14 +2,14 @@
 use Rattle.std.specs.Prelude.{ℕ, Bool, true, false, not, ◌&&◌, ◌||◌, List, [], ◌∷◌, length, get_or, set, replicate, leb, ltb, eqb}
 use Rattle.base.specs.Choice.{if◌then◌else◌}
 use Rattle.base.specs.Tab.{tab}
-use Rattle.base.specs.Answer.{accepted, Refusal, ◌when◌, first_of}
+use Rattle.base.specs.Answer.{accepted, Refusal, ◌when◌, first_number}
 use Rattle.exchange.specs.declared.State.{State}
 use Rattle.exchange.specs.declared.Answered.{Answered}
 use Rattle.exchange.specs.Mapping.{entry_at}
 
 -- at the start the flag is off and slot j takes from j
-abbrev pub startState : State
-startState =
+abbrev pub start_state : State
+start_state =
     record {
       flag = false;
       staging = false;
@@ -22,28 +22,28 @@ startState =
 -- A state with one thing changed. A map that is not staged, or not waiting, any more keeps its octets, which nothing
 -- then reads.
 
-abbrev pub withFlag : Bool → State → State
-withFlag b s =
+abbrev pub with_flag : Bool → State → State
+with_flag b s =
     record { flag = b; staging = s.staging; pending = s.pending; live = s.live; staged = s.staged; waiting = s.waiting }
 
-abbrev pub withLive : List ℕ → State → State
-withLive m s =
+abbrev pub with_live : List ℕ → State → State
+with_live m s =
     record { flag = s.flag; staging = s.staging; pending = s.pending; live = m; staged = s.staged; waiting = s.waiting }
 
-abbrev pub withStaged : List ℕ → State → State
-withStaged m s =
+abbrev pub with_staged : List ℕ → State → State
+with_staged m s =
     record { flag = s.flag; staging = true; pending = s.pending; live = s.live; staged = m; waiting = s.waiting }
 
-abbrev pub withWaiting : List ℕ → State → State
-withWaiting m s =
+abbrev pub with_waiting : List ℕ → State → State
+with_waiting m s =
     record { flag = s.flag; staging = s.staging; pending = true; live = s.live; staged = s.staged; waiting = m }
 
-abbrev pub noneStaged : State → State
-noneStaged s =
+abbrev pub none_staged : State → State
+none_staged s =
     record { flag = s.flag; staging = false; pending = s.pending; live = s.live; staged = s.staged; waiting = s.waiting }
 
-abbrev pub noneWaiting : State → State
-noneWaiting s =
+abbrev pub none_waiting : State → State
+none_waiting s =
     record { flag = s.flag; staging = s.staging; pending = false; live = s.live; staged = s.staged; waiting = s.waiting }
 
 -- an accepted call, and a refused one, which leaves the state as it was
@@ -58,11 +58,11 @@ refuse s number = record { state = s; number = number; entry = 0 }
 abbrev pub kind_of : List ℕ → ℕ
 kind_of r = get_or r 0 0
 
-abbrev pub aOf : List ℕ → ℕ
-aOf r = get_or r 1 0
+abbrev pub a_of : List ℕ → ℕ
+a_of r = get_or r 1 0
 
-abbrev pub bOf : List ℕ → ℕ
-bOf r = get_or r 2 0
+abbrev pub b_of : List ℕ → ℕ
+b_of r = get_or r 2 0
 
 unfoldable pub between : ℕ → ℕ → ℕ → Bool
 between low x high = leb low x && leb x high
@@ -79,68 +79,68 @@ locked kind flag = (eqb kind 1 || (eqb kind 2 || eqb kind 4)) && not flag
 unfoldable pub unstaged : ℕ → Bool → Bool
 unstaged kind staging = (eqb kind 2 || eqb kind 4) && not staging
 
-abbrev pub hostRefusals : State → List ℕ → List Refusal
-hostRefusals s r =
+abbrev pub host_refusals : State → List ℕ → List Refusal
+host_refusals s r =
     8 when not (eqb (length r) 4)
     ∷ 9 when not (between 1 (kind_of r) 4)
-    ∷ 10 when outside (kind_of r) (aOf r) (bOf r)
+    ∷ 10 when outside (kind_of r) (a_of r) (b_of r)
     ∷ 11 when locked (kind_of r) s.flag
     ∷ 12 when unstaged (kind_of r) s.staging
     ∷ []
 
-unfoldable pub hostRefusal : State → List ℕ → ℕ
-hostRefusal s r = first_of (hostRefusals s r)
+unfoldable pub host_refusal : State → List ℕ → ℕ
+host_refusal s r = first_number (host_refusals s r)
 
 -- kind 1: staged entry a is b; where nothing is staged, a copy of the live map is staged first
 abbrev pub stage : State → ℕ → ℕ → State
-stage s a b = withStaged (set (if s.staging then s.staged else s.live) a b) s
+stage s a b = with_staged (set (if s.staging then s.staged else s.live) a b) s
 
 -- kind 2: the staged map is the waiting one, in place of any, and nothing is staged any more
 abbrev pub commit : State → State
-commit s = noneStaged (withWaiting s.staged s)
+commit s = none_staged (with_waiting s.staged s)
 
 -- kind 4: nothing is staged any more
 abbrev pub discard : State → State
-discard s = noneStaged s
+discard s = none_staged s
 
 -- what an accepted record leaves; kind 3 changes nothing
-unfoldable pub hostAfter : State → List ℕ → State
-hostAfter s r =
-    if eqb (kind_of r) 1 then stage s (aOf r) (bOf r) else
+unfoldable pub host_after : State → List ℕ → State
+host_after s r =
+    if eqb (kind_of r) 1 then stage s (a_of r) (b_of r) else
     if eqb (kind_of r) 2 then commit s else
     if eqb (kind_of r) 4 then discard s else
     s
 
 -- kind 3 reads live entry a
-unfoldable pub hostEntry : State → List ℕ → ℕ
-hostEntry s r = if eqb (kind_of r) 3 then entry_at s.live (aOf r) else 0
+unfoldable pub host_entry : State → List ℕ → ℕ
+host_entry s r = if eqb (kind_of r) 3 then entry_at s.live (a_of r) else 0
 
 abbrev pub hosted : State → List ℕ → Answered
-hosted s r = accepted (hostRefusal s r) (accept (hostAfter s r) (hostEntry s r)) (refuse s (hostRefusal s r))
+hosted s r = accepted (host_refusal s r) (accept (host_after s r) (host_entry s r)) (refuse s (host_refusal s r))
 
 -- The key. To 1 it sets the flag; to 0 it clears it and drops the staged and the waiting map.
 
-abbrev pub keyOn : State → State
-keyOn s = withFlag true s
+abbrev pub key_on : State → State
+key_on s = with_flag true s
 
-abbrev pub keyOff : State → State
-keyOff s = withFlag false (noneStaged (noneWaiting s))
+abbrev pub key_off : State → State
+key_off s = with_flag false (none_staged (none_waiting s))
 
-abbrev pub keyRefusals : ℕ → List Refusal
-keyRefusals position = 13 when not (eqb position 0 || eqb position 1) ∷ []
+abbrev pub key_refusals : ℕ → List Refusal
+key_refusals position = 13 when not (eqb position 0 || eqb position 1) ∷ []
 
-unfoldable pub keyRefusal : ℕ → ℕ
-keyRefusal position = first_of (keyRefusals position)
+unfoldable pub key_refusal : ℕ → ℕ
+key_refusal position = first_number (key_refusals position)
 
 abbrev pub keyed : State → ℕ → Answered
 keyed s position =
-    accepted (keyRefusal position) (accept (if eqb position 1 then keyOn s else keyOff s) 0)
-    (refuse s (keyRefusal position))
+    accepted (key_refusal position) (accept (if eqb position 1 then key_on s else key_off s) 0)
+    (refuse s (key_refusal position))
 
 -- A multiframe boundary: the waiting map is live, if there is one, and then nothing waits any more.
 
-abbrev pub goneLive : State → State
-goneLive s = noneWaiting (withLive (if s.pending then s.waiting else s.live) s)
+abbrev pub gone_live : State → State
+gone_live s = none_waiting (with_live (if s.pending then s.waiting else s.live) s)
 
 abbrev pub crossed : State → Answered
-crossed s = accept (goneLive s) 0
+crossed s = accept (gone_live s) 0

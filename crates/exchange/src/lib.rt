@@ -1,9 +1,9 @@
 // The map and the key.
 ghost use Rattle.std.specs.Prelude.{◌≡◌, ◌∷◌, ℕ, ◌<◌, ◌≤◌, length, get_or};
 ghost use Rattle.base.specs.Tab.{tab};
-ghost use Rattle.exchange.specs.Mapping.{entryUsed, entry_at, mappedPayload, Mapped};
-ghost use Rattle.exchange.specs.Machine.{startState, accept, refuse, keyed, crossed, between, outside, locked};
-ghost use Rattle.exchange.specs.Machine.{unstaged, hostRefusal, stage, commit, discard, hostAfter, hostEntry};
+ghost use Rattle.exchange.specs.Mapping.{entry_used, entry_at, mapped_payload, Mapped};
+ghost use Rattle.exchange.specs.Machine.{start_state, accept, refuse, keyed, crossed, between, outside, locked};
+ghost use Rattle.exchange.specs.Machine.{unstaged, host_refusal, stage, commit, discard, host_after, host_entry};
 ghost use Rattle.exchange.specs.Machine.{hosted};
 
 // the flag, a live map, perhaps a staged one, perhaps a waiting one; a map has the entry of output slot j at its index
@@ -28,7 +28,7 @@ pub struct Answered {
 
 // at the start the flag is off and slot j takes from j
 pub fn start() -> State
-    ensures { result ≡ startState }
+    ensures { result ≡ start_state }
 {
     let mut live = [0; 32];
     for j in 0..32 {
@@ -93,7 +93,7 @@ fn is_unstaged(kind: u8, staging: bool) -> bool
 
 // the number of a host record
 fn host_refusal(state: State, octets: &[u8]) -> u64
-    ensures { result ≡ hostRefusal state octets.now }
+    ensures { result ≡ host_refusal state octets.now }
 {
     let flag = state.flag;
     let staging = state.staging;
@@ -156,8 +156,8 @@ fn discard(state: State) -> State
 
 // what an accepted record leaves
 fn host_after(state: State, octets: &[u8]) -> State
-    requires { hostRefusal state octets.now ≡ 0 }
-    ensures { result ≡ hostAfter state octets.now }
+    requires { host_refusal state octets.now ≡ 0 }
+    ensures { result ≡ host_after state octets.now }
 {
     let kind = octets[0];
     if kind == 1 {
@@ -174,15 +174,15 @@ fn host_after(state: State, octets: &[u8]) -> State
 
 // an entry over 31 counts as 0
 fn used(entry: u8) -> u8
-    ensures { result ≡ entryUsed entry }
+    ensures { result ≡ entry_used entry }
 {
     if entry <= 31 { entry } else { 0 }
 }
 
 // what an accepted record reads
 fn host_entry(state: State, octets: &[u8]) -> u8
-    requires { hostRefusal state octets.now ≡ 0 }
-    ensures { result ≡ hostEntry state octets.now }
+    requires { host_refusal state octets.now ≡ 0 }
+    ensures { result ≡ host_entry state octets.now }
 {
     if octets[0] == 3 {
         let a = octets[1] as usize;
@@ -259,7 +259,7 @@ fn slots(frame: &[u8]) -> [u8; 32]
 // a frame through a map that has no entry over 31
 fn map_frame(map: &[u8; 32], frame: &[u8], out: &mut [u8])
     requires { ((j : ℕ) → j < 32 → get_or map.now j 0 ≤ 31) × (length frame.now ≡ 31) × (length out.old ≡ 31) }
-    ensures { out.new ≡ mappedPayload map.now frame.now }
+    ensures { out.new ≡ mapped_payload map.now frame.now }
 {
     let slots = slots(frame);
     for i in 0..31 {

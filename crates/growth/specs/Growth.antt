@@ -5,11 +5,11 @@
 -- is judged by it as though the line had never been cut.
 use Rattle.std.specs.Prelude.{ℕ, zero, suc, ◌+◌, ◌-◌, ◌*◌, ◌/◌, ◌%◌, min, List, [], ◌++◌, length, drop}
 use Rattle.std.proofs.Math.Option.{Option, none, some}
-use Rattle.align.specs.Place.{foundIn, start_of}
+use Rattle.align.specs.Place.{found_in, start_of}
 use Rattle.align.specs.declared.Found.{Found}
 use Rattle.align.specs.declared.Found.TheVariants.{At, BasicAt, Nothing}
-use Rattle.measure.specs.Reading.{whole, lossFrom, lostAt, usedOf, payloadOf, slot0Of}
-use Rattle.measure.specs.Reading.{wordErrors, wordBits, compared, disagreeing, farEnd}
+use Rattle.measure.specs.Reading.{whole, loss_from, lost_at, used_of, payload_of, slot0_of}
+use Rattle.measure.specs.Reading.{word_errors, word_bits, compared, disagreeing, far_end}
 use Rattle.growth.specs.declared.Line.{Line}
 
 -- what an image makes of a line: what is known then, the octets that are kept of the image, how many multiframes leave,
@@ -31,18 +31,18 @@ abbrev pub nothing : Line
 nothing = unread 0 Nothing
 
 -- of the multiframes that have left, how many are at the image's head: the last of them, where there is one
-abbrev pub keptOf : ℕ → ℕ
-keptOf used = min used 1
+abbrev pub kept_of : ℕ → ℕ
+kept_of used = min used 1
 
 -- of n octets with g used multiframes, those before the last of these are let go; after a loss all of them
-abbrev pub goneOf : ℕ → ℕ → Option ℕ → ℕ
-goneOf n g none = 512 * (g - 1)
-goneOf n g (some f) = n
+abbrev pub gone_of : ℕ → ℕ → Option ℕ → ℕ
+gone_of n g none = 512 * (g - 1)
+gone_of n g (some f) = n
 
 -- a frame of the image as the line counts it, where so many frames were let go
-abbrev pub laterBy : ℕ → Option ℕ → Option ℕ
-laterBy d none = none
-laterBy d (some f) = some (d + f)
+abbrev pub later_by : ℕ → Option ℕ → Option ℕ
+later_by d none = none
+later_by d (some f) = some (d + f)
 
 -- The image is read from bit q on: l is its loss and g its used multiframes, of which the first h have left before. The
 -- others leave. A block is judged when the next one, which carries its check, has come: the last of the h is judged now.
@@ -50,28 +50,28 @@ unfoldable pub read_on : Line → List ℕ → ℕ → ℕ → Option ℕ → �
 read_on c s q h l g =
     record {
       line = record {
-        before = c.before + goneOf (length s) g l;
+        before = c.before + gone_of (length s) g l;
         found = c.found;
         used = c.used + (g - h);
-        lost = lostAt (laterBy (16 * (c.used - h)) l);
-        words = c.words + wordErrors s (q + 4096 * h) (g - h);
+        lost = lost_at (later_by (16 * (c.used - h)) l);
+        words = c.words + word_errors s (q + 4096 * h) (g - h);
         errored = c.errored + disagreeing s (q + 2048 * compared h) (compared g - compared h);
-        farend = c.farend + farEnd s (q + 4096 * h) (g - h);
-        wordbits = c.wordbits + wordBits s (q + 4096 * h) (g - h);
+        farend = c.farend + far_end s (q + 4096 * h) (g - h);
+        wordbits = c.wordbits + word_bits s (q + 4096 * h) (g - h);
       };
-      window = drop (goneOf (length s) g l) s;
+      window = drop (gone_of (length s) g l) s;
       multiframes = g - h;
-      payload = payloadOf s (q + 4096 * h) (g - h);
-      slot0 = slot0Of s (q + 4096 * h) (g - h);
+      payload = payload_of s (q + 4096 * h) (g - h);
+      slot0 = slot0_of s (q + 4096 * h) (g - h);
     }
 
 -- a place stands: the image begins with the octet that holds the start of its first multiframe, or of the one kept
-abbrev pub readFrom : Line → List ℕ → Grown
-readFrom c s =
+abbrev pub read_from : Line → List ℕ → Grown
+read_from c s =
     let q = start_of c.found % 8 in
-    let h = keptOf c.used in
+    let h = kept_of c.used in
     let m = whole s q in
-    read_on c s q h (lossFrom s q h m) (usedOf (lossFrom s q h m) m)
+    read_on c s q h (loss_from s q h m) (used_of (loss_from s q h m) m)
 
 -- a place with basic alignment that was found before is the first
 abbrev pub noted : Found → Found → Found
@@ -94,7 +94,7 @@ waits before found s =
 abbrev pub searched : ℕ → Found → List ℕ → Found → Grown
 searched before known s (At p k) =
     let q = p + 512 * k in
-    readFrom (unread (before + q / 8) (At (8 * before + p) k)) (drop (q / 8) s)
+    read_from (unread (before + q / 8) (At (8 * before + p) k)) (drop (q / 8) s)
 searched before known s (BasicAt p) = waits before (noted known (BasicAt (8 * before + p))) s
 searched before known s Nothing = waits before known s
 
@@ -119,15 +119,15 @@ passed c s =
     }
 
 -- by what was found, and whether alignment was lost since
-abbrev pub grownBy : Found → ℕ → Line → List ℕ → Grown
-grownBy (At p k) zero c s = readFrom c s
-grownBy (At p k) (suc f) c s = passed c s
-grownBy (BasicAt p) f c s = searched c.before (BasicAt p) s (foundIn s)
-grownBy Nothing f c s = searched c.before Nothing s (foundIn s)
+abbrev pub grown_by : Found → ℕ → Line → List ℕ → Grown
+grown_by (At p k) zero c s = read_from c s
+grown_by (At p k) (suc f) c s = passed c s
+grown_by (BasicAt p) f c s = searched c.before (BasicAt p) s (found_in s)
+grown_by Nothing f c s = searched c.before Nothing s (found_in s)
 
 -- what the image s makes of the line c
 abbrev pub grown : Line → List ℕ → Grown
-grown c s = grownBy c.found c.lost c s
+grown c s = grown_by c.found c.lost c s
 
 -- what a chunk makes of it, with the octets of the window before it
 abbrev pub fed : Line → List ℕ → List ℕ → Grown

@@ -2,7 +2,7 @@
 use Rattle.std.specs.Prelude.{ℕ, ◌+◌, ◌-◌, ◌≤◌, ◌≡◌, Bool, true, false, ◌&&◌, not, List, [], ◌∷◌, ◌++◌, eqb, length, get_or, drop, replicate}
 use Rattle.base.specs.Choice.{if◌then◌else◌}
 use Rattle.base.specs.Tab.{tab}
-use Rattle.signals.specs.Signalling.{Walk, step, walk, ends, startsIn, readIn, firstIn, lossesIn, heldIn, abcdAt, xyIn}
+use Rattle.signals.specs.Signalling.{Walk, step, walk, ends, starts_in, read_in, first_in, losses_in, held_in, abcd_at, xy_in}
 use Rattle.heard.specs.declared.Hearing.{Hearing}
 
 -- no count is over n
@@ -46,58 +46,58 @@ abbrev pub walk_of : Hearing → Walk
 walk_of h = record { passed = h.passed; wrong = h.wrong }
 
 -- one frame more: a step of the walk, for which the frame before and this one are enough
-unfoldable pub afterFrame : Hearing → ℕ → Hearing
-afterFrame h octet =
+unfoldable pub after_frame : Hearing → ℕ → Hearing
+after_frame h octet =
     let w = step (get_or h.row 15 0 ∷ octet ∷ []) 1 (walk_of h) in
     tallied h octet w.passed w.wrong
 
 -- a row more, and a row from the beginning
-unfoldable pub afterRow : Hearing → List ℕ → Hearing
-afterRow h [] = h
-afterRow h (octet ∷ t) = afterRow (afterFrame h octet) t
+unfoldable pub after_row : Hearing → List ℕ → Hearing
+after_row h [] = h
+after_row h (octet ∷ t) = after_row (after_frame h octet) t
 
-abbrev pub hearingOf : List ℕ → Hearing
-hearingOf t = afterRow nothing t
+abbrev pub hearing_of : List ℕ → Hearing
+hearing_of t = after_row nothing t
 
 -- alignment is held; X and Y as they are answered
 
 abbrev pub is_held : Hearing → Bool
 is_held h = not (eqb h.passed 0)
 
-abbrev pub xyOf : Hearing → ℕ
-xyOf h = if is_held h then h.xy else 11
+abbrev pub xy_of : Hearing → ℕ
+xy_of h = if is_held h then h.xy else 11
 
 -- a signalling multiframe has just become whole; the frame with which it began, and A to D of its channel c, 1 to 30
 
-abbrev pub isRead : Hearing → Bool
-isRead h = eqb h.passed 16
+abbrev pub is_read : Hearing → Bool
+is_read h = eqb h.passed 16
 
-abbrev pub beganAt : Hearing → ℕ
-beganAt h = h.frames - 16
+abbrev pub began_at : Hearing → ℕ
+began_at h = h.frames - 16
 
-abbrev pub channelOf : Hearing → ℕ → ℕ
-channelOf h c = abcdAt h.row 0 c
+abbrev pub channel_of : Hearing → ℕ → ℕ
+channel_of h c = abcd_at h.row 0 c
 
 -- the thirty channels of the one that has just become whole, and nothing where none has
 unfoldable pub told : Hearing → List ℕ
-told h = if isRead h then tab 30 (λ i. channelOf h (i + 1)) else []
+told h = if is_read h then tab 30 (λ i. channel_of h (i + 1)) else []
 
 -- those of all, one behind the other, along a row from h on
-unfoldable pub toldAlong : Hearing → List ℕ → List ℕ
-toldAlong h [] = []
-toldAlong h (octet ∷ t) = told (afterFrame h octet) ++ toldAlong (afterFrame h octet) t
+unfoldable pub told_along : Hearing → List ℕ → List ℕ
+told_along h [] = []
+told_along h (octet ∷ t) = told (after_frame h octet) ++ told_along (after_frame h octet) t
 
 -- h is what is to be known behind the row t, by the definitions of signalling in a row
 pub record Hears (t : List ℕ) (h : Hearing) : Type 0 where
   pub frames : h.frames ≡ length t
   pub walked : walk_of h ≡ walk t (length t)
-  pub multiframes : h.multiframes ≡ readIn t (length t)
-  pub first : h.first ≡ firstIn t (length t)
-  pub losses : h.losses ≡ lossesIn t (length t)
-  pub held : is_held h ≡ heldIn t (length t)
-  pub xy : xyOf h ≡ xyIn t (length t)
+  pub multiframes : h.multiframes ≡ read_in t (length t)
+  pub first : h.first ≡ first_in t (length t)
+  pub losses : h.losses ≡ losses_in t (length t)
+  pub held : is_held h ≡ held_in t (length t)
+  pub xy : xy_of h ≡ xy_in t (length t)
   -- the last frame is the last of a signalling multiframe that is read
-  pub read : isRead h ≡ ends t (length t - 1)
+  pub read : is_read h ≡ ends t (length t - 1)
   -- and then: it is the last of those that are read, and these are its channels
-  pub began : isRead h ≡ true → beganAt h ≡ get_or (startsIn t (length t)) (readIn t (length t) - 1) 0
-  pub channel : isRead h ≡ true → (c : ℕ) → 1 ≤ c → c ≤ 30 → channelOf h c ≡ abcdAt t (length t - 16) c
+  pub began : is_read h ≡ true → began_at h ≡ get_or (starts_in t (length t)) (read_in t (length t) - 1) 0
+  pub channel : is_read h ≡ true → (c : ℕ) → 1 ≤ c → c ≤ 30 → channel_of h c ≡ abcd_at t (length t - 16) c

@@ -1,8 +1,8 @@
 // Signalling in slot 16, heard frame by frame.
 ghost use Rattle.std.specs.Prelude.{◌≡◌, [], ◌∷◌, ◌++◌, ◌-◌, ◌^◌, ◌≤◌, drop};
 ghost use Rattle.base.specs.Choice.{if◌then◌else◌};
-ghost use Rattle.heard.specs.Hearing.{Few, nothing, tallied, afterFrame, is_held, xyOf, isRead, beganAt};
-ghost use Rattle.heard.specs.Hearing.{channelOf};
+ghost use Rattle.heard.specs.Hearing.{Few, nothing, tallied, after_frame, is_held, xy_of, is_read, began_at};
+ghost use Rattle.heard.specs.Hearing.{channel_of};
 
 // What is known behind some frames: how many there were; how many frames of a signalling multiframe have passed, 0
 // where alignment is searched for, and whether its signal was wrong; how many are read, the frame of the first
@@ -86,7 +86,7 @@ fn tallied(h: Hearing, octet: u8, passed: usize, wrong: bool) -> Hearing
 // One frame more is heard, its slot 16 this octet.
 pub fn hear(h: Hearing, octet: u8) -> Hearing
     requires { Few h (2 ^ 40) }
-    ensures { result ≡ afterFrame h octet }
+    ensures { result ≡ after_frame h octet }
 {
     let row = h.row;
     let signal = octet / 16 == 0;
@@ -114,7 +114,7 @@ pub fn is_held(h: Hearing) -> bool
 
 // frame 0 of the last that is read; X 1 and Y 0 where none is, or alignment is not held
 pub fn xy(h: Hearing) -> u8
-    ensures { result ≡ xyOf h }
+    ensures { result ≡ xy_of h }
 {
     if h.passed != 0 {
         return h.xy;
@@ -124,14 +124,14 @@ pub fn xy(h: Hearing) -> u8
 
 // A signalling multiframe has just become whole.
 pub fn is_read(h: Hearing) -> bool
-    ensures { result ≡ isRead h }
+    ensures { result ≡ is_read h }
 {
     h.passed == 16
 }
 
 // the frame with which it began
 pub fn began(h: Hearing) -> usize
-    ensures { result ≡ beganAt h }
+    ensures { result ≡ began_at h }
 {
     if h.frames < 16 {
         return 0;
@@ -142,7 +142,7 @@ pub fn began(h: Hearing) -> usize
 // A to D of its channel c
 pub fn channel(h: Hearing, c: usize) -> u8
     requires { (1 ≤ c) × (c ≤ 30) }
-    ensures { result ≡ channelOf h c }
+    ensures { result ≡ channel_of h c }
 {
     let row = h.row;
     if c <= 15 {

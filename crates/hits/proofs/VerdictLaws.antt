@@ -9,8 +9,8 @@ use borrow.Author.Tests.{leb-false, eqb-true, eqb-false, eq-eqb, ne_eqb}
 use lib.Dec.{eqb, leb, lit<, lit≤}
 use Rattle.base.specs.Choice.{if◌then◌else◌}
 use Rattle.crc.specs.Share.{distance}
-use Rattle.crc.proofs.Order.{order-4, order-6}
-use Rattle.crc.proofs.ShareLaws.{same-share}
+use Rattle.crc.proofs.Order.{order_4, order_6}
+use Rattle.crc.proofs.ShareLaws.{same_share}
 use Rattle.hits.specs.Verdict.{form_of, share_of, verdict}
 use Rattle.hits.specs.declared.judge.Form.{Form}
 use Rattle.hits.specs.declared.judge.Verdict.{Verdict}
@@ -24,49 +24,49 @@ pub record Fits (k : Form) : Type 0 where
   pub wide : 2 ≤ k.width
   pub narrow : k.width ≤ 6
 
-pub form-fits : (t1 : Bool) → Fits (form_of t1)
+pub form_fits : (t1 : Bool) → Fits (form_of t1)
 unfolding form_of
-form-fits true = record { ordered = lit< tt; strided = lit< tt; few = lit≤ tt; wide = lit≤ tt; narrow = lit≤ tt }
-form-fits false = record { ordered = lit< tt; strided = lit< tt; few = lit≤ tt; wide = lit≤ tt; narrow = lit≤ tt }
+form_fits true = record { ordered = lit< tt; strided = lit< tt; few = lit≤ tt; wide = lit≤ tt; narrow = lit≤ tt }
+form_fits false = record { ordered = lit< tt; strided = lit< tt; few = lit≤ tt; wide = lit≤ tt; narrow = lit≤ tt }
 
 -- tests that hold in the same cases
-eqb-iff : (a b c d : ℕ) → (a ≡ b) ↔ (c ≡ d) → eqb a b ≡ eqb c d
-eqb-iff a b c d (there, back) = go (eqb a b) refl
+eqb_iff : (a b c d : ℕ) → (a ≡ b) ↔ (c ≡ d) → eqb a b ≡ eqb c d
+eqb_iff a b c d (there, back) = go (eqb a b) refl
   where
     go : (t : Bool) → eqb a b ≡ t → eqb a b ≡ eqb c d
     go true e = e ∙ sym (eq-eqb c d (there (eqb-true a b e)))
     go false e = e ∙ sym (ne_eqb c d (λ q. eqb-false a b e (back q)))
 
-hidden-at-multiples : (t1 : Bool) (a b : ℕ) → a < (form_of t1).bits → b < (form_of t1).bits
+hidden_at_multiples : (t1 : Bool) (a b : ℕ) → a < (form_of t1).bits → b < (form_of t1).bits
     → eqb (share_of (form_of t1) a) (share_of (form_of t1) b) ≡ eqb (distance a b % (form_of t1).order) 0
 unfolding form_of
-hidden-at-multiples true a b ha hb = eqb-iff _ _ _ _ (same-share 6 (lit≤ tt) 63 order-6 4632 a b ha hb)
-hidden-at-multiples false a b ha hb = eqb-iff _ _ _ _ (same-share 4 (lit≤ tt) 15 order-4 2048 a b ha hb)
+hidden_at_multiples true a b ha hb = eqb_iff _ _ _ _ (same_share 6 (lit≤ tt) 63 order_6 4632 a b ha hb)
+hidden_at_multiples false a b ha hb = eqb_iff _ _ _ _ (same_share 4 (lit≤ tt) 15 order_4 2048 a b ha hb)
 
-in-range : (n a b : ℕ) → leb n a || leb n b ≡ false → (a < n) × (b < n)
-in-range n a b e =
+in_range : (n a b : ℕ) → leb n a || leb n b ≡ false → (a < n) × (b < n)
+in_range n a b e =
     let p = (or-eq-false-eq-eq-false-and-eq-false (leb n a) (leb n b)).0 e in (leb-false n a p.0, leb-false n b p.1)
 
 -- two data bits of a block are judged by their distance
-pub of-data-bits : (t1 : Bool) (k : Form) (a b : ℕ) → k ≡ form_of t1 → leb k.bits a || leb k.bits b ≡ false
+pub of_data_bits : (t1 : Bool) (k : Form) (a b : ℕ) → k ≡ form_of t1 → leb k.bits a || leb k.bits b ≡ false
     → a % k.every ≢ 0 → b % k.every ≢ 0 → a ≢ b
     → verdict (form_of t1) a b ≡ (if eqb (distance a b % k.order) 0 then Hidden (distance a b) else Seen (distance a b))
 unfolding verdict
-of-data-bits t1 k a b f l x y ne =
-    let (ha, hb) = in-range (form_of t1).bits a b (rw f at l) in
-    rw (hidden-at-multiples t1 a b ha hb, ← f, l, ne_eqb _ 0 x, ne_eqb _ 0 y, ne_eqb a b ne)
+of_data_bits t1 k a b f l x y ne =
+    let (ha, hb) = in_range (form_of t1).bits a b (rw f at l) in
+    rw (hidden_at_multiples t1 a b ha hb, ← f, l, ne_eqb _ 0 x, ne_eqb _ 0 y, ne_eqb a b ne)
 
-abbrev pub isOutside : Verdict → Bool
-isOutside Outside = true
-isOutside (NoData i) = false
-isOutside (OneBit i) = false
-isOutside (Hidden m) = false
-isOutside (Seen m) = false
+abbrev pub is_outside : Verdict → Bool
+is_outside Outside = true
+is_outside (NoData i) = false
+is_outside (OneBit i) = false
+is_outside (Hidden m) = false
+is_outside (Seen m) = false
 
-pub in_block : (k : Form) (a b : ℕ) (v : Verdict) → v ≡ verdict k a b → isOutside v ≡ false → (a < k.bits) × (b < k.bits)
+pub in_block : (k : Form) (a b : ℕ) (v : Verdict) → v ≡ verdict k a b → is_outside v ≡ false → (a < k.bits) × (b < k.bits)
 unfolding verdict
 in_block k a b v is h = go (leb k.bits a || leb k.bits b) refl
   where
     go : (t : Bool) → leb k.bits a || leb k.bits b ≡ t → (a < k.bits) × (b < k.bits)
-    go true e = let out : v ≡ Outside = is ∙ rw e in absurd (true≢false (sym (ap isOutside out) ∙ h))
-    go false e = in-range k.bits a b e
+    go true e = let out : v ≡ Outside = is ∙ rw e in absurd (true≢false (sym (ap is_outside out) ∙ h))
+    go false e = in_range k.bits a b e

@@ -2,14 +2,14 @@
 pub mod t1;
 
 ghost use Rattle.std.specs.Prelude.{◌≡◌, [], ◌∷◌, ◌++◌, ◌+◌, ◌≤◌, ◌<◌, length, drop, eqb};
-ghost use Rattle.align.specs.Place.{placeOf};
-ghost use Rattle.align.specs.Why.{whyNumber};
+ghost use Rattle.align.specs.Place.{place_of};
+ghost use Rattle.align.specs.Why.{why_number};
 ghost use Rattle.stream.specs.Entry.{Feeds};
 ghost use Rattle.exchange.specs.Machine.{kind_of};
-ghost use Rattle.jikhvanto.specs.Octets.{mapAt, state_of, octetsOf, stored, readingPlaces, whyPlaces};
-ghost use Rattle.jikhvanto.specs.Octets.{signallingPlaces, answer_of, pairPlaces};
-ghost use Rattle.jikhvanto.specs.Stream.{number_at, foundBy, streamOf, foundNumber, k_of, streamNumbers};
-ghost use Rattle.jikhvanto.specs.Stream.{windowOf, speltNumbers, feedStored};
+ghost use Rattle.jikhvanto.specs.Octets.{map_at, state_of, octets_of, stored, reading_places, why_places};
+ghost use Rattle.jikhvanto.specs.Octets.{signalling_places, answer_of, pair_places};
+ghost use Rattle.jikhvanto.specs.Stream.{number_at, found_by, stream_of, found_number, k_of, stream_numbers};
+ghost use Rattle.jikhvanto.specs.Stream.{window_of, spelt_numbers, feed_stored};
 ghost use Rattle.jikhvanto.specs.Calls.{JkRead, JkStreamStart, JkFeed, JkEnd};
 ghost use Rattle.jikhvanto.specs.Calls.{JkSignals, JkWhy, JkWrite, JkWriteSignalled};
 ghost use Rattle.jikhvanto.specs.Calls.{JkStart, JkHost, JkKey, JkBoundary, JkMap};
@@ -34,7 +34,7 @@ fn copy(from: &[u8], to: &mut [u8])
 // the 32 octets of a map
 fn map_at(octets: &[u8], at: usize) -> [u8; 32]
     requires { at + 32 ≤ length octets.now }
-    ensures { result ≡ mapAt at octets.now }
+    ensures { result ≡ map_at at octets.now }
 {
     let mut map = [0; 32];
     copy(&octets[at..at + 32], &mut map);
@@ -60,7 +60,7 @@ fn unpack(octets: &[u8; 99]) -> State
 
 // the octets of a state
 fn pack(state: State) -> [u8; 99]
-    ensures { result ≡ octetsOf state }
+    ensures { result ≡ octets_of state }
 {
     let live = state.live;
     let staged = state.staged;
@@ -115,7 +115,7 @@ fn length_at(octets: &[u8], i: usize) -> usize
 
 // what is found, by its number
 fn found_by(number: u64, place: usize, k: usize) -> Found
-    ensures { result ≡ foundBy number place k }
+    ensures { result ≡ found_by number place k }
 {
     if number == 2 {
         return Found::At { place, k };
@@ -129,7 +129,7 @@ fn found_by(number: u64, place: usize, k: usize) -> Found
 // the stream that the octets are
 fn unpack_stream(octets: &[u8]) -> Stream
     requires { length octets.now ≡ 2144 }
-    ensures { result ≡ streamOf octets.now }
+    ensures { result ≡ stream_of octets.now }
 {
     let found = found_by(
         number_at(octets, 3),
@@ -156,7 +156,7 @@ fn unpack_stream(octets: &[u8]) -> Stream
 // the number of what is found, its place, and its k
 
 fn found_number(found: Found) -> u64
-    ensures { result ≡ foundNumber found }
+    ensures { result ≡ found_number found }
 {
     match found {
         Found::At { place, k } => 2,
@@ -166,7 +166,7 @@ fn found_number(found: Found) -> u64
 }
 
 fn place_of(found: Found) -> usize
-    ensures { result ≡ placeOf found }
+    ensures { result ≡ place_of found }
 {
     match found {
         Found::At { place, k } => place,
@@ -187,7 +187,7 @@ fn k_of(found: Found) -> usize
 
 // the numbers of a stream
 fn stream_numbers(stream: Stream) -> [u64; 12]
-    ensures { result ≡ streamNumbers stream }
+    ensures { result ≡ stream_numbers stream }
 {
     let line = stream.line;
     let found = line.found;
@@ -210,7 +210,7 @@ fn stream_numbers(stream: Stream) -> [u64; 12]
 // the numbers of a stream, to the front of its octets
 fn store_numbers(stream: Stream, octets: &mut [u8])
     requires { length octets.old ≡ 2144 }
-    ensures { octets.new ≡ speltNumbers (streamNumbers stream) ++ drop 96 octets.old }
+    ensures { octets.new ≡ spelt_numbers (stream_numbers stream) ++ drop 96 octets.old }
 {
     let numbers = stream_numbers(stream);
     for i in 0..12 {
@@ -222,10 +222,10 @@ fn store_numbers(stream: Stream, octets: &mut [u8])
 // a chunk to the stream that the octets are: what it makes of them, and is answered
 fn feed(octets: &mut [u8], chunk: &[u8], payload: &mut [u8], slot0: &mut [u8]) -> Fed
     requires { length octets.old ≡ 2144 }
-    ensures { Feeds (streamOf octets.old) (windowOf octets.old)
+    ensures { Feeds (stream_of octets.old) (window_of octets.old)
         chunk.now payload.old slot0.old
-        result (windowOf octets.new) payload.new slot0.new
-        × (octets.new ≡ feedStored octets.old chunk.now
+        result (window_of octets.new) payload.new slot0.new
+        × (octets.new ≡ feed_stored octets.old chunk.now
         (length payload.old) (length slot0.old)) }
 {
     let stream = unpack_stream(octets);
@@ -239,7 +239,7 @@ fn feed(octets: &mut [u8], chunk: &[u8], payload: &mut [u8], slot0: &mut [u8]) -
 
 // a reading, in its places
 fn give_reading(r: Reading, answer: &mut [u64; 16])
-    ensures { answer.new ≡ readingPlaces r }
+    ensures { answer.new ≡ reading_places r }
 {
     *answer = [0; 16];
     answer[0] = r.number;
@@ -258,7 +258,7 @@ fn give_reading(r: Reading, answer: &mut [u64; 16])
 
 // a reading of signalling, in its places
 fn give_signalling(r: Signalling, answer: &mut [u64; 16])
-    ensures { answer.new ≡ signallingPlaces r }
+    ensures { answer.new ≡ signalling_places r }
 {
     *answer = [0; 16];
     answer[0] = r.number;
@@ -286,7 +286,7 @@ fn give_four(a: u64, b: u64, c: u64, d: u64, answer: &mut [u64; 16]) -> u64
 
 // what is said of a place, in its places, and its number
 fn give_why(w: Why, answer: &mut [u64; 16]) -> u64
-    ensures { (result ≡ whyNumber w) × (answer.new ≡ whyPlaces w) }
+    ensures { (result ≡ why_number w) × (answer.new ≡ why_places w) }
 {
     match w {
         Why::NoneFails { k } => give_four(0, 0, k as u64, 0, answer),
@@ -300,7 +300,7 @@ fn give_why(w: Why, answer: &mut [u64; 16]) -> u64
 
 // number and value to places 0 and 1
 fn give_pair(number: u64, value: u64, answer: &mut [u64; 16])
-    ensures { answer.new ≡ pairPlaces number value }
+    ensures { answer.new ≡ pair_places number value }
 {
     give_four(number, value, 0, 0, answer);
 }

@@ -1,13 +1,13 @@
 // T1 in the C interface.
 ghost use Rattle.std.specs.Prelude.{◌≡◌};
-ghost use Rattle.jikhvanto.specs.Octets.{t1ReadingPlaces};
+ghost use Rattle.jikhvanto.specs.Octets.{t1_reading_places};
 ghost use Rattle.jikhvanto.specs.Calls.{JkT1Read, JkT1Write, JkT1WriteSignalled};
 
 use t1read::Reading;
 
 // a reading, in its places
 fn give_t1_reading(r: Reading, answer: &mut [u64; 16])
-    ensures { answer.new ≡ t1ReadingPlaces r }
+    ensures { answer.new ≡ t1_reading_places r }
 {
     *answer = [0; 16];
     answer[0] = r.number;

@@ -12,51 +12,51 @@ use Rattle.line.specs.Spelt.{spelt, digit}
 abbrev pub Binary : (ℕ → ℕ) → Type 0
 Binary f = (i : ℕ) → f i < 2
 
-pub spelt-lt : (n : ℕ) (f : ℕ → ℕ) → Binary f → spelt n f < 2 ^ n
+pub spelt_lt : (n : ℕ) (f : ℕ → ℕ) → Binary f → spelt n f < 2 ^ n
 unfolding spelt
-spelt-lt zero f h = omega arith
-spelt-lt (suc n) f h = rw pow-suc (omega (arith, spelt-lt n f h, h n))
+spelt_lt zero f h = omega arith
+spelt_lt (suc n) f h = rw pow-suc (omega (arith, spelt_lt n f h, h n))
 
-pub spelt-agree : (n : ℕ) (f g : ℕ → ℕ) → ((i : ℕ) → i < n → f i ≡ g i) → spelt n f ≡ spelt n g
+pub spelt_agree : (n : ℕ) (f g : ℕ → ℕ) → ((i : ℕ) → i < n → f i ≡ g i) → spelt n f ≡ spelt n g
 unfolding spelt
-spelt-agree zero f g h = refl
-spelt-agree (suc n) f g h = rw (spelt-agree n f g (λ i l. h i (omega arith)), h n (omega arith))
+spelt_agree zero f g h = refl
+spelt_agree (suc n) f g h = rw (spelt_agree n f g (λ i l. h i (omega arith)), h n (omega arith))
 
 -- equal numbers have equal bits
-pub spelt-same : (n : ℕ) (f g : ℕ → ℕ) → Binary f → Binary g → spelt n f ≡ spelt n g → (i : ℕ) → i < n → f i ≡ g i
+pub spelt_same : (n : ℕ) (f g : ℕ → ℕ) → Binary f → Binary g → spelt n f ≡ spelt n g → (i : ℕ) → i < n → f i ≡ g i
 unfolding spelt
-spelt-same zero f g hf hg e i l = absurd (omega arith)
-spelt-same (suc n) f g hf hg e i l =
+spelt_same zero f g hf hg e i l = absurd (omega arith)
+spelt_same (suc n) f g hf hg e i l =
     elim (eq-or-lt_of_le (le_of_suc-le-suc l)) [
       | inl q ↦ rw q (omega (arith, hf n, hg n))
-      | inr k ↦ spelt-same n f g hf hg (omega (arith, hf n, hg n)) i k
+      | inr k ↦ spelt_same n f g hf hg (omega (arith, hf n, hg n)) i k
     ]
 
 -- n + m bits: the first n, and then m
-pub spelt-add : (n m : ℕ) (f : ℕ → ℕ) → spelt (n + m) f ≡ spelt n f * 2 ^ m + spelt m (λ i. f (n + i))
+pub spelt_add : (n m : ℕ) (f : ℕ → ℕ) → spelt (n + m) f ≡ spelt n f * 2 ^ m + spelt m (λ i. f (n + i))
 unfolding spelt
-spelt-add n zero f = rw (add-zero n) (omega arith)
-spelt-add n (suc m) f = rw (add-suc n m, spelt-add n m f, pow-suc 2 m) (omega (arith, mul_assoc (spelt n f) (2 ^ m) 2))
+spelt_add n zero f = rw (add-zero n) (omega arith)
+spelt_add n (suc m) f = rw (add-suc n m, spelt_add n m f, pow-suc 2 m) (omega (arith, mul_assoc (spelt n f) (2 ^ m) 2))
 
-pub spelt-more : (n : ℕ) (f : ℕ → ℕ) → spelt (n + 1) f ≡ 2 * spelt n f + f n
+pub spelt_more : (n : ℕ) (f : ℕ → ℕ) → spelt (n + 1) f ≡ 2 * spelt n f + f n
 unfolding spelt
-spelt-more n f = rw add-one
+spelt_more n f = rw add-one
 
 -- a bit of the number
-pub spelt-bit : (j m : ℕ) (f : ℕ → ℕ) → Binary f → spelt (j + 1 + m) f / 2 ^ m % 2 ≡ f j
-spelt-bit j m f h =
-    rw (spelt-add (j + 1) m f, high (spelt (j + 1) f) m (spelt-lt m (λ i. f (j + 1 + i)) (λ i. h (j + 1 + i))), spelt-more j f)
+pub spelt_bit : (j m : ℕ) (f : ℕ → ℕ) → Binary f → spelt (j + 1 + m) f / 2 ^ m % 2 ≡ f j
+spelt_bit j m f h =
+    rw (spelt_add (j + 1) m f, high (spelt (j + 1) f) m (spelt_lt m (λ i. f (j + 1 + i)) (λ i. h (j + 1 + i))), spelt_more j f)
     (omega (arith, h j))
 
-pub digit-spelt : (n j : ℕ) (f : ℕ → ℕ) → Binary f → j < n → digit n (spelt n f) j ≡ f j
-digit-spelt n j f h l =
+pub digit_spelt : (n j : ℕ) (f : ℕ → ℕ) → Binary f → j < n → digit n (spelt n f) j ≡ f j
+digit_spelt n j f h l =
     let e : j + 1 + (n - 1 - j) ≡ n = omega arith in
-    ap (λ x. spelt x f / 2 ^ (n - 1 - j) % 2) (sym e) ∙ spelt-bit j (n - 1 - j) f h
+    ap (λ x. spelt x f / 2 ^ (n - 1 - j) % 2) (sym e) ∙ spelt_bit j (n - 1 - j) f h
 
 -- the number that its digits spell
-pub spelt-digits : (n k : ℕ) → k < 2 ^ n → spelt n (digit n k) ≡ k
+pub spelt_digits : (n k : ℕ) → k < 2 ^ n → spelt n (digit n k) ≡ k
 unfolding spelt
-spelt-digits n k h = go n 0 (omega arith) ∙ omega arith
+spelt_digits n k h = go n 0 (omega arith) ∙ omega arith
   where
     go : (m r : ℕ) → m + r ≡ n → spelt m (digit n k) ≡ k / 2 ^ r
     go zero r e = let q : r ≡ n = omega arith in sym (rw q (div-eq_of_lt h))

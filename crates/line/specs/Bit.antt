@@ -12,12 +12,12 @@ unfoldable pub field : List ℕ → ℕ → ℕ → ℕ
 field s p n = spelt n (λ i. bit_at s (p + i))
 
 -- the octet that the eight bits from place p on spell
-abbrev pub octetAt : List ℕ → ℕ → ℕ
-octetAt s p = field s p 8
+abbrev pub octet_at : List ℕ → ℕ → ℕ
+octet_at s p = field s p 8
 
 -- the bits of an octet, the most significant first
-unfoldable pub octetBits : ℕ → List ℕ
-octetBits x = tab 8 (λ i. x / 2 ^ (7 - i) % 2)
+unfoldable pub octet_bits : ℕ → List ℕ
+octet_bits x = tab 8 (λ i. x / 2 ^ (7 - i) % 2)
 
 -- n bits stand from place p on, in an image whose bits can be counted
 pub record Room (s : List ℕ) (p n : ℕ) : Type 0 where

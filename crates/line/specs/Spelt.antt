@@ -16,5 +16,5 @@ unfoldable pub packed : ℕ → (ℕ → ℕ) → List ℕ
 packed n f = tab n (λ i. spelt 8 (λ j. f (8 * i + j)))
 
 -- octet j of the eight that spell n, the highest first
-abbrev pub speltOctet : ℕ → ℕ → ℕ
-speltOctet n j = n / 256 ^ (7 - j) % 256
+abbrev pub spelt_octet : ℕ → ℕ → ℕ
+spelt_octet n j = n / 256 ^ (7 - j) % 256

@@ -1,6 +1,6 @@
 ghost use Rattle.std.specs.Prelude.{◌≡◌, ◌+◌, ◌-◌, ◌*◌, ◌^◌, ◌<◌, ◌≤◌, length};
-ghost use Rattle.line.specs.Bit.{bit_at, field, octetAt};
-ghost use Rattle.line.specs.Spelt.{speltOctet};
+ghost use Rattle.line.specs.Bit.{bit_at, field, octet_at};
+ghost use Rattle.line.specs.Spelt.{spelt_octet};
 ghost use Rattle.line.specs.Window.{low_first, turned};
 ghost use Rattle.base.specs.Tab.{tab};
 
@@ -23,7 +23,7 @@ pub fn bit(s: &[u8], p: usize) -> u8
 // the octet that the eight bits from bit o of octet i on spell
 pub fn octet_in(s: &[u8], i: usize, o: usize) -> u8
     requires { (8 * i + o + 8 ≤ 8 * length s.now) × (o < 8) }
-    ensures { result ≡ octetAt s.now (8 * i + o) }
+    ensures { result ≡ octet_at s.now (8 * i + o) }
 {
     if o == 0 {
         return s[i];
@@ -34,7 +34,7 @@ pub fn octet_in(s: &[u8], i: usize, o: usize) -> u8
 // the octet that the eight bits from place p on spell
 pub fn octet(s: &[u8], p: usize) -> u8
     requires { p + 8 ≤ 8 * length s.now }
-    ensures { result ≡ octetAt s.now p }
+    ensures { result ≡ octet_at s.now p }
 {
     octet_in(s, p >> 3, p & 7)
 }
@@ -42,7 +42,7 @@ pub fn octet(s: &[u8], p: usize) -> u8
 // the run of 16 octets from bit o of octet i on, by value: it is read whole before any of it is written
 pub fn run_in(s: &[u8], i: usize, o: usize) -> [u8; 16]
     requires { (8 * i + o + 128 ≤ 8 * length s.now) × (o < 8) }
-    ensures { result ≡ tab 16 (λ j. octetAt s.now (8 * i + o + 8 * j)) }
+    ensures { result ≡ tab 16 (λ j. octet_at s.now (8 * i + o + 8 * j)) }
 {
     let mut octets = [0; 16];
     for j in 0..16 {
@@ -116,7 +116,7 @@ pub fn window(s: &[u8], i: usize) -> u64
 
 // the eight octets that spell a number, by value: they compile to a swap and a store
 fn octets_of(n: u64) -> [u8; 8]
-    ensures { result ≡ tab 8 (speltOctet n) }
+    ensures { result ≡ tab 8 (spelt_octet n) }
 {
     [
         ((n >> 56) % 256) as u8,
@@ -133,7 +133,7 @@ fn octets_of(n: u64) -> [u8; 8]
 // writes them
 pub fn spell(n: u64, octets: &mut [u8])
     requires { length octets.old ≡ 8 }
-    ensures { octets.new ≡ tab 8 (speltOctet n) }
+    ensures { octets.new ≡ tab 8 (spelt_octet n) }
 {
     let spelt = octets_of(n);
     for j in 0..8 {

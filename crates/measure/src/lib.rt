@@ -3,10 +3,10 @@
 ghost use Rattle.std.specs.Prelude.{◌≡◌, ◌++◌, ◌+◌, ◌-◌, ◌*◌, ◌^◌, ◌<◌, ◌≤◌, eqb, length, drop};
 ghost use Rattle.line.specs.Bit.{Room};
 ghost use Rattle.base.specs.Choice.{if◌then◌else◌};
-ghost use Rattle.measure.specs.Reading.{lossFrom, lostAt, causeOf, usedOf, slots, payloadOf, slot0Of};
+ghost use Rattle.measure.specs.Reading.{loss_from, lost_at, cause_of, used_of, slots, payload_of, slot0_of};
 ghost use Rattle.crc.specs.Fold.{remainders};
 ghost use Rattle.measure.specs.Track.{Runs};
-ghost use Rattle.measure.specs.Reading.{wordErrors, wordBits, compared, disagreeing, zerosE, farEnd};
+ghost use Rattle.measure.specs.Reading.{word_errors, word_bits, compared, disagreeing, zeros_e, far_end};
 
 // What the alignment words and bits 2 tell.
 #[derive(Drop)]
@@ -97,13 +97,13 @@ fn after_multiframes(s: &[u8], q: usize, h: usize) -> Tracking
 // once, and counts where its multiframe is whole
 pub fn track(s: &[u8], q: usize, h: usize, m: usize) -> Tracked
     requires { Room s.now q (4096 * m) × (h ≤ m) }
-    ensures { (result.lost ≡ lostAt (lossFrom s.now q h m))
-        × (result.cause ≡ causeOf (lossFrom s.now q h m))
-        × (result.used ≡ usedOf (lossFrom s.now q h m) m)
+    ensures { (result.lost ≡ lost_at (loss_from s.now q h m))
+        × (result.cause ≡ cause_of (loss_from s.now q h m))
+        × (result.used ≡ used_of (loss_from s.now q h m) m)
         × (h ≤ result.used)
         × (result.used ≤ m)
-        × (result.words ≡ wordErrors s.now (q + 4096 * h) (result.used - h))
-        × (result.wordbits ≡ wordBits s.now (q + 4096 * h) (result.used - h)) }
+        × (result.words ≡ word_errors s.now (q + 4096 * h) (result.used - h))
+        × (result.wordbits ≡ word_bits s.now (q + 4096 * h) (result.used - h)) }
 {
     let mut t = after_multiframes(s, q, h);
     let mut words: usize = 0;
@@ -171,7 +171,7 @@ fn put_multiframe(s: &[u8], q: usize, out: &mut [u8])
 // the payload of g multiframes, each to its part of the output
 pub fn payload_of(s: &[u8], q: usize, g: usize, out: &mut [u8])
     requires { Room s.now q (4096 * g) × (496 * g ≤ length out.old) }
-    ensures { out.new ≡ payloadOf s.now q g ++ drop (496 * g) out.old }
+    ensures { out.new ≡ payload_of s.now q g ++ drop (496 * g) out.old }
 {
     for m in 0..g {
         let a = 496 * m;
@@ -182,7 +182,7 @@ pub fn payload_of(s: &[u8], q: usize, g: usize, out: &mut [u8])
 // the slots 0 of g multiframes
 pub fn slot0_of(s: &[u8], q: usize, g: usize, out: &mut [u8])
     requires { Room s.now q (4096 * g) × (16 * g ≤ length out.old) }
-    ensures { out.new ≡ slot0Of s.now q g ++ drop (16 * g) out.old }
+    ensures { out.new ≡ slot0_of s.now q g ++ drop (16 * g) out.old }
 {
     let i = q >> 3;
     let o = q & 7;
@@ -206,7 +206,7 @@ pub fn compared(g: usize) -> usize
 // the E bits of multiframe m that are 0
 fn zeros_e(s: &[u8], q: usize, m: usize) -> usize
     requires { Room s.now q (4096 * m + 4096) }
-    ensures { (result ≡ zerosE s.now q m) × (result ≤ 2) }
+    ensures { (result ≡ zeros_e s.now q m) × (result ≤ 2) }
 {
     let a = line::bit(s, q + 256 * (16 * m + 13));
     let b = line::bit(s, q + 256 * (16 * m + 15));
@@ -216,7 +216,7 @@ fn zeros_e(s: &[u8], q: usize, m: usize) -> usize
 // those of g multiframes
 pub fn far_end(s: &[u8], q: usize, g: usize) -> usize
     requires { Room s.now q (4096 * g) }
-    ensures { result ≡ farEnd s.now q g }
+    ensures { result ≡ far_end s.now q g }
 {
     let mut zeros: usize = 0;
     for m in 0..g {

@@ -5,11 +5,11 @@ use Rattle.program.specs.declared.text.Spelt.{Spelt}
 use Rattle.program.specs.declared.text.Spelt.TheVariants.{Number, Nothing}
 
 -- an octet that is no decimal digit
-abbrev pub noDigit : ℕ → Bool
-noDigit x = ltb x 48 || ltb 57 x
+abbrev pub no_digit : ℕ → Bool
+no_digit x = ltb x 48 || ltb 57 x
 
 -- the number that v and then a word's digits spell, or the largest of 64 bits where it is larger;
 -- nothing, where an octet is no digit (no word is empty)
 unfoldable pub decimal : ℕ → List ℕ → Spelt
 decimal v [] = Number v
-decimal v (x ∷ xs) = if noDigit x then Nothing else decimal (min (10 * v + (x - 48)) (2 ^ 64 - 1)) xs
+decimal v (x ∷ xs) = if no_digit x then Nothing else decimal (min (10 * v + (x - 48)) (2 ^ 64 - 1)) xs

@@ -1,11 +1,11 @@
 -- What `read` answers, and what it leaves in the two outputs (KIT §5).
 use Rattle.std.specs.Prelude.{ℕ, ◌*◌, ◌≤◌, ◌||◌, ◌≡◌, List, [], ◌∷◌, ◌++◌, eqb, ltb, length, drop}
 use Rattle.std.proofs.Math.Option.{Option}
-use Rattle.align.specs.Place.{foundIn, number_of, placeOf, start_of}
-use Rattle.base.specs.Answer.{accepted, Refusal, ◌when◌, first_of}
+use Rattle.align.specs.Place.{found_in, number_of, place_of, start_of}
+use Rattle.base.specs.Answer.{accepted, Refusal, ◌when◌, first_number}
 use Rattle.base.specs.Choice.{if◌then◌else◌}
-use Rattle.measure.specs.Reading.{whole, loss, lostAt, causeOf, usedOf, payloadOf, slot0Of, wordErrors, wordBits}
-use Rattle.measure.specs.Reading.{compared, errored, farEnd}
+use Rattle.measure.specs.Reading.{whole, loss, lost_at, cause_of, used_of, payload_of, slot0_of, word_errors, word_bits}
+use Rattle.measure.specs.Reading.{compared, errored, far_end}
 use Rattle.read.specs.declared.Located.{Located}
 use Rattle.read.specs.declared.Reading.{Reading}
 
@@ -16,35 +16,35 @@ pub record GoodLength (s : List ℕ) : Type 0 where
 
 -- the place, the multiframe start, M, the loss and G of an image
 unfoldable pub place_in : List ℕ → ℕ
-place_in s = placeOf (foundIn s)
+place_in s = place_of (found_in s)
 
 unfoldable pub start_in : List ℕ → ℕ
-start_in s = start_of (foundIn s)
+start_in s = start_of (found_in s)
 
-abbrev pub wholeIn : List ℕ → ℕ
-wholeIn s = whole s (start_in s)
+abbrev pub whole_in : List ℕ → ℕ
+whole_in s = whole s (start_in s)
 
-abbrev pub lossIn : List ℕ → Option ℕ
-lossIn s = loss s (start_in s) (wholeIn s)
+abbrev pub loss_in : List ℕ → Option ℕ
+loss_in s = loss s (start_in s) (whole_in s)
 
-abbrev pub usedIn : List ℕ → ℕ
-usedIn s = usedOf (lossIn s) (wholeIn s)
+abbrev pub used_in : List ℕ → ℕ
+used_in s = used_of (loss_in s) (whole_in s)
 
 -- what an image is refused for by every entry that reads it from the first place that stands
 abbrev pub unplaced : List ℕ → List Refusal
 unplaced s =
     1 when ltb (length s) 2048
     ∷ 2 when ltb 8192 (length s)
-    ∷ 3 when eqb (number_of (foundIn s)) 3
-    ∷ 15 when eqb (number_of (foundIn s)) 15
+    ∷ 3 when eqb (number_of (found_in s)) 3
+    ∷ 15 when eqb (number_of (found_in s)) 15
     ∷ []
 
 -- a and b are how many octets the two outputs have
 abbrev pub refusals : List ℕ → ℕ → ℕ → List Refusal
-refusals s a b = unplaced s ++ 4 when (ltb a (496 * usedIn s) || ltb b (16 * usedIn s)) ∷ []
+refusals s a b = unplaced s ++ 4 when (ltb a (496 * used_in s) || ltb b (16 * used_in s)) ∷ []
 
 unfoldable pub refusal : List ℕ → ℕ → ℕ → ℕ
-refusal s a b = first_of (refusals s a b)
+refusal s a b = first_number (refusals s a b)
 
 -- what an accepted call answers
 unfoldable pub accept : List ℕ → Reading
@@ -53,15 +53,15 @@ accept s =
       number = 0;
       place = place_in s;
       start = start_in s;
-      whole = wholeIn s;
-      used = usedIn s;
-      lost = lostAt (lossIn s);
-      words = wordErrors s (start_in s) (usedIn s);
-      compared = compared (usedIn s);
-      errored = errored s (start_in s) (usedIn s);
-      farend = farEnd s (start_in s) (usedIn s);
-      wordbits = wordBits s (start_in s) (usedIn s);
-      cause = causeOf (lossIn s);
+      whole = whole_in s;
+      used = used_in s;
+      lost = lost_at (loss_in s);
+      words = word_errors s (start_in s) (used_in s);
+      compared = compared (used_in s);
+      errored = errored s (start_in s) (used_in s);
+      farend = far_end s (start_in s) (used_in s);
+      wordbits = word_bits s (start_in s) (used_in s);
+      cause = cause_of (loss_in s);
     }
 
 -- a refusal: zeros beside the number and the place
@@ -83,21 +83,21 @@ refuse n p =
     }
 
 -- the place beside the number n: number 15 alone has one, the first place with basic alignment
-abbrev pub refusedPlace : List ℕ → ℕ → ℕ
-refusedPlace s n = if eqb n 15 then place_in s else 0
+abbrev pub refused_place : List ℕ → ℕ → ℕ
+refused_place s n = if eqb n 15 then place_in s else 0
 
 unfoldable pub reading : List ℕ → ℕ → ℕ → Reading
 reading s a b =
     let n = refusal s a b in
-    accepted n (accept s) (refuse n (refusedPlace s n))
+    accepted n (accept s) (refuse n (refused_place s n))
 
 -- what `read` returns, and leaves in the outputs
 pub record Read (s payload slot0 : List ℕ) (r : Reading) (payload' slot0' : List ℕ) : Type 0 where
-  pub its-answer : r ≡ reading s (length payload) (length slot0)
-  pub its-payload : payload'
-      ≡ accepted r.number (payloadOf s (start_in s) (usedIn s) ++ drop (496 * usedIn s) payload) payload
-  pub its-slot0 : slot0'
-      ≡ accepted r.number (slot0Of s (start_in s) (usedIn s) ++ drop (16 * usedIn s) slot0) slot0
+  pub its_answer : r ≡ reading s (length payload) (length slot0)
+  pub its_payload : payload'
+      ≡ accepted r.number (payload_of s (start_in s) (used_in s) ++ drop (496 * used_in s) payload) payload
+  pub its_slot0 : slot0'
+      ≡ accepted r.number (slot0_of s (start_in s) (used_in s) ++ drop (16 * used_in s) slot0) slot0
 
 -- Where an image is read from, and how far, as `locate` answers it: what every such entry begins with.
 
@@ -107,12 +107,12 @@ found s =
       number = 0;
       place = place_in s;
       start = start_in s;
-      whole = wholeIn s;
-      used = usedIn s;
-      lost = lostAt (lossIn s);
-      words = wordErrors s (start_in s) (usedIn s);
-      wordbits = wordBits s (start_in s) (usedIn s);
-      cause = causeOf (lossIn s);
+      whole = whole_in s;
+      used = used_in s;
+      lost = lost_at (loss_in s);
+      words = word_errors s (start_in s) (used_in s);
+      wordbits = word_bits s (start_in s) (used_in s);
+      cause = cause_of (loss_in s);
     }
 
 abbrev pub nowhere : ℕ → ℕ → Located
@@ -121,5 +121,5 @@ nowhere n p =
 
 unfoldable pub located : List ℕ → Located
 located s =
-    let n = first_of (unplaced s) in
-    accepted n (found s) (nowhere n (refusedPlace s n))
+    let n = first_number (unplaced s) in
+    accepted n (found s) (nowhere n (refused_place s n))

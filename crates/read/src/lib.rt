@@ -1,7 +1,7 @@
 // Reading an image from the first place that stands.
 ghost use Rattle.std.specs.Prelude.{◌≡◌};
 ghost use Rattle.std.proofs.Math.Option.{some};
-ghost use Rattle.align.specs.Place.{firstStanding};
+ghost use Rattle.align.specs.Place.{first_standing};
 ghost use Rattle.read.specs.Entry.{Read, GoodLength, refuse, nowhere, located};
 
 // What is read: the number is 0, or the refusal's with zeros beside it; with 15 the place is that of `Found::BasicAt`.
@@ -75,7 +75,7 @@ fn nowhere(number: u64, at: usize) -> Located
 
 // from the first place that stands, with its least k
 fn located_at(image: &[u8], place: usize, k: usize) -> Located
-    requires { GoodLength image.now × (firstStanding image.now ≡ some (record { place = place; k = k })) }
+    requires { GoodLength image.now × (first_standing image.now ≡ some (record { place = place; k = k })) }
     ensures { result ≡ located image.now }
 {
     let start = place + 512 * k;

@@ -12,60 +12,60 @@ use lib.Seq.{ext_get_or, get_or-take, get_or-drop, get_or-set_same, get_or-set_o
 use Rattle.base.specs.Choice.{if◌then◌else◌}
 use Rattle.base.proofs.PartLaws.{part_length}
 use Rattle.e1.specs.Payload.{index_of, frame_of, slot_of}
-use Rattle.write.proofs.Parts.{part, payloadPart}
+use Rattle.write.proofs.Parts.{part, payload_part}
 use Rattle.signalled.specs.Given.{Given}
-use Rattle.signalled.specs.Slot16.{abcdOf, signallingFrame, slot16, withSlot16}
-use Rattle.signalled.proofs.Laws.{with-length, with_at, with-slot16, with-other}
+use Rattle.signalled.specs.Slot16.{abcd_of, signalling_frame, slot16, with_slot16}
+use Rattle.signalled.proofs.Laws.{with_length, with_at, with_slot16_lem, with_other}
 
 -- multiframe m's part of ABCD
-abbrev pub abcdPart : ℕ → List ℕ → List ℕ
-abcdPart m v = part (30 * m) (30 * m + 30) v
+abbrev pub abcd_part : ℕ → List ℕ → List ℕ
+abcd_part m v = part (30 * m) (30 * m + 30) v
 
 module _ (xy v : List ℕ) (m : ℕ) where
-  part-abcd : (c : ℕ) → c ≤ 30 → abcdOf v m c ≡ abcdOf (abcdPart m v) 0 c
-  part-abcd c h =
+  part_abcd : (c : ℕ) → c ≤ 30 → abcd_of v m c ≡ abcd_of (abcd_part m v) 0 c
+  part_abcd c h =
       let z : 30 * 0 + (c - 1) ≡ c - 1 = omega arith in
-      sym (ap (λ i. get_or (abcdPart m v) i 0) z
+      sym (ap (λ i. get_or (abcd_part m v) i 0) z
       ∙ get_or-take (30 * m + 30 - 30 * m) (drop (30 * m) v) (c - 1) 0 (omega arith) ∙ get_or-drop (30 * m) v (c - 1) 0)
 
-  part-slot16 : (f : ℕ) → f < 16 → slot16 xy v (16 * m + f) ≡ slot16 (get_or xy m 0 ∷ []) (abcdPart m v) f
+  part_slot16 : (f : ℕ) → f < 16 → slot16 xy v (16 * m + f) ≡ slot16 (get_or xy m 0 ∷ []) (abcd_part m v) f
   unfolding slot16
-  part-slot16 f h =
+  part_slot16 f h =
       let e₁ : (16 * m + f) / 16 ≡ m = omega arith in
       let e₂ : (16 * m + f) % 16 ≡ f = omega arith in
       let e₃ : f / 16 ≡ 0 = omega arith in
       let e₄ : f % 16 ≡ f = omega arith in
-      ap₂ (signallingFrame xy v) e₁ e₂ ∙ ap (λ x. if eqb f 0 then get_or xy m 0 else x)
-      (ap₂ (λ a b. 16 * a + b) (part-abcd _ (omega arith)) (part-abcd _ (omega arith)))
-      ∙ sym (ap₂ (signallingFrame (get_or xy m 0 ∷ []) (abcdPart m v)) e₃ e₄)
+      ap₂ (signalling_frame xy v) e₁ e₂ ∙ ap (λ x. if eqb f 0 then get_or xy m 0 else x)
+      (ap₂ (λ a b. 16 * a + b) (part_abcd _ (omega arith)) (part_abcd _ (omega arith)))
+      ∙ sym (ap₂ (signalling_frame (get_or xy m 0 ∷ []) (abcd_part m v)) e₃ e₄)
 
   -- multiframe m's part of a payload with slot 16 replaced
-  pub part-with : (p : List ℕ) → 496 * m + 496 ≤ length p
-      → payloadPart m (withSlot16 p xy v) ≡ withSlot16 (payloadPart m p) (get_or xy m 0 ∷ []) (abcdPart m v)
-  part-with p h =
-      let q = withSlot16 p xy v in
-      let s = payloadPart m p in
+  pub part_with : (p : List ℕ) → 496 * m + 496 ≤ length p
+      → payload_part m (with_slot16 p xy v) ≡ with_slot16 (payload_part m p) (get_or xy m 0 ∷ []) (abcd_part m v)
+  part_with p h =
+      let q = with_slot16 p xy v in
+      let s = payload_part m p in
       let x = get_or xy m 0 ∷ [] in
-      let w = abcdPart m v in
+      let w = abcd_part m v in
       let a = 496 * m in
       let long : length s ≡ 496 = part_length a (a + 496) p h ∙ omega arith in
-      let long' : length (payloadPart m q) ≡ 496 = part_length a (a + 496) q (omega (arith, with-length p xy v)) ∙ omega arith in
-      ext_get_or 0 (payloadPart m q) (withSlot16 s x w) (long' ∙ sym (with-length s x w ∙ long))
+      let long' : length (payload_part m q) ≡ 496 = part_length a (a + 496) q (omega (arith, with_length p xy v)) ∙ omega arith in
+      ext_get_or 0 (payload_part m q) (with_slot16 s x w) (long' ∙ sym (with_length s x w ∙ long))
       (λ i l.
       let b : i < 496 = omega arith in
       let e : slot_of (a + i) ≡ slot_of i = omega arith in
       let k : frame_of (a + i) ≡ 16 * m + frame_of i = omega arith in
       get_or-take (a + 496 - a) (drop a q) i 0 (omega arith) ∙ get_or-drop a q i 0
       ∙ with_at p xy v (a + i) (omega arith)
-      ∙ ap₂ (λ t y. if eqb t 16 then y else get_or p (a + i) 0) e (ap (slot16 xy v) k ∙ part-slot16 (frame_of i) (omega arith))
+      ∙ ap₂ (λ t y. if eqb t 16 then y else get_or p (a + i) 0) e (ap (slot16 xy v) k ∙ part_slot16 (frame_of i) (omega arith))
       ∙ ap (λ y. if eqb (slot_of i) 16 then slot16 x w (frame_of i) else y)
       (sym (get_or-take (a + 496 - a) (drop a p) i 0 (omega arith) ∙ get_or-drop a p i 0))
       ∙ sym (with_at s x w i (omega arith)))
 
 -- frame f's part of a payload with slot 16 replaced
-pub frame-with : (p xy v : List ℕ) (f : ℕ) → 31 * f + 31 ≤ length p
-    → part (31 * f) (31 * f + 31) (withSlot16 p xy v) ≡ set (part (31 * f) (31 * f + 31) p) 15 (slot16 xy v f)
-frame-with p xy v f h =
+pub frame_with : (p xy v : List ℕ) (f : ℕ) → 31 * f + 31 ≤ length p
+    → part (31 * f) (31 * f + 31) (with_slot16 p xy v) ≡ set (part (31 * f) (31 * f + 31) p) 15 (slot16 xy v f)
+frame_with p xy v f h =
     ext_get_or 0 (part a (a + 31) q) (set s 15 x) (long' ∙ sym (length-set s 15 x ∙ long))
     (λ i l. let b : i < 31 = omega (arith, long') in octet i b ∙ which i b (eqb i 15) refl)
   where
@@ -73,7 +73,7 @@ frame-with p xy v f h =
     a = 31 * f
 
     q : List ℕ
-    q = withSlot16 p xy v
+    q = with_slot16 p xy v
 
     s : List ℕ
     s = part a (a + 31) p
@@ -85,7 +85,7 @@ frame-with p xy v f h =
     long = part_length a (a + 31) p h ∙ omega arith
 
     long' : length (part a (a + 31) q) ≡ 31
-    long' = part_length a (a + 31) q (omega (arith, with-length p xy v)) ∙ omega arith
+    long' = part_length a (a + 31) q (omega (arith, with_length p xy v)) ∙ omega arith
 
     octet : (i : ℕ) → i < 31 → get_or (part a (a + 31) q) i 0 ≡ get_or q (a + i) 0
     octet i b = get_or-take (a + 31 - a) (drop a q) i 0 (omega arith) ∙ get_or-drop a q i 0
@@ -94,34 +94,34 @@ frame-with p xy v f h =
     which i b true t =
         let e = eqb-true i 15 t in
         let k : a + i ≡ index_of f 16 = omega arith in
-        ap (λ j. get_or q j 0) k ∙ with-slot16 p xy v f (omega arith)
+        ap (λ j. get_or q j 0) k ∙ with_slot16_lem p xy v f (omega arith)
         ∙ sym (ap (λ j. get_or (set s 15 x) j 0) e ∙ get_or-set_same s 15 x 0 (omega (arith, long)))
     which i b false t =
         let n = eqb-false i 15 t in
         let k : a + i ≡ index_of f (i + 1) = omega arith in
-        ap (λ j. get_or q j 0) k ∙ with-other p xy v f (i + 1) (omega arith) (omega arith) (omega arith) (λ e. n (omega arith))
+        ap (λ j. get_or q j 0) k ∙ with_other p xy v f (i + 1) (omega arith) (omega arith) (omega arith) (λ e. n (omega arith))
         ∙ ap (λ j. get_or p j 0) (sym k)
         ∙ sym (get_or-set_other s 15 i x 0 n ∙ get_or-take (a + 31 - a) (drop a p) i 0 (omega arith) ∙ get_or-drop a p i 0)
 
 -- the signalling that multiframe m is given, with any XY
-pub part-given : (xy v : List ℕ) (n m j : ℕ) → Given xy v n → m < n → Given (get_or xy j 0 ∷ []) (abcdPart m v) 1
-part-given xy v n m j g h =
-    let long : length (abcdPart m v) ≡ 30 = part_length (30 * m) (30 * m + 30) v (omega (arith, g.its-abcd.long)) ∙ omega arith in
-    let at : (i : ℕ) → i < 30 → get_or (abcdPart m v) i 0 ≡ get_or v (30 * m + i) 0 =
+pub part_given : (xy v : List ℕ) (n m j : ℕ) → Given xy v n → m < n → Given (get_or xy j 0 ∷ []) (abcd_part m v) 1
+part_given xy v n m j g h =
+    let long : length (abcd_part m v) ≡ 30 = part_length (30 * m) (30 * m + 30) v (omega (arith, g.its_abcd.long)) ∙ omega arith in
+    let at : (i : ℕ) → i < 30 → get_or (abcd_part m v) i 0 ≡ get_or v (30 * m + i) 0 =
     λ i l. get_or-take (30 * m + 30 - 30 * m) (drop (30 * m) v) i 0 (omega arith) ∙ get_or-drop (30 * m) v i 0 in
     record {
-      its-xy = record {
+      its_xy = record {
         long = refl;
         least = λ i l. omega arith;
-        most = one (g.its-xy.most j);
+        most = one (g.its_xy.most j);
       };
-      its-abcd = record {
+      its_abcd = record {
         long = long;
-        least = λ i l. rw (at i l) (g.its-abcd.least (30 * m + i) (omega arith));
+        least = λ i l. rw (at i l) (g.its_abcd.least (30 * m + i) (omega arith));
         most = λ i.
             elim (dec_lt i 30) [
-              | yes l ↦ rw (at i l) (g.its-abcd.most (30 * m + i))
-              | no l ↦ let z : get_or (abcdPart m v) i 0 ≡ 0 = get_or-eq_default (abcdPart m v) 0 {n = i} (omega arith) in omega arith
+              | yes l ↦ rw (at i l) (g.its_abcd.most (30 * m + i))
+              | no l ↦ let z : get_or (abcd_part m v) i 0 ≡ 0 = get_or-eq_default (abcd_part m v) 0 {n = i} (omega arith) in omega arith
             ];
       };
     }

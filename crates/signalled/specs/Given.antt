@@ -8,5 +8,5 @@ pub record Nibbles (low n : ℕ) (l : List ℕ) : Type 0 where
   pub most : (i : ℕ) → get_or l i 0 ≤ 15
 
 pub record Given (xy v : List ℕ) (n : ℕ) : Type 0 where
-  pub its-xy : Nibbles 0 n xy
-  pub its-abcd : Nibbles 1 (30 * n) v
+  pub its_xy : Nibbles 0 n xy
+  pub its_abcd : Nibbles 1 (30 * n) v

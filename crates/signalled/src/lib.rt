@@ -4,7 +4,7 @@ ghost use Rattle.crc.specs.Fold.{remainders};
 ghost use Rattle.e1.specs.Block.{block_check};
 ghost use Rattle.write.specs.Writing.{block, carries, written};
 ghost use Rattle.write.specs.Inputs.{Inputs};
-ghost use Rattle.signalled.specs.Slot16.{slot16, withSlot16, nibbles, signalsFit};
+ghost use Rattle.signalled.specs.Slot16.{slot16, with_slot16, nibbles, signals_fit};
 ghost use Rattle.signalled.specs.Entry.{refusal, Wrote};
 ghost use Rattle.signalled.specs.Given.{Given};
 
@@ -27,7 +27,7 @@ fn nibbles(octets: &[u8], n: usize, low: u8) -> bool
 // n octets XY, and 30n octets ABCD of which none is 0000
 fn signals_fit(xy: &[u8], abcd: &[u8], n: usize) -> bool
     requires { n ≤ 16 }
-    ensures { result ≡ signalsFit xy.now abcd.now n }
+    ensures { result ≡ signals_fit xy.now abcd.now n }
 {
     nibbles(xy, n, 0) & nibbles(abcd, 30 * n, 1)
 }
@@ -89,7 +89,7 @@ fn write_block(
     requires { Inputs payload.now overhead.now k 1 × Given (xy ∷ []) abcd.now 1 × (b < 2) × (length out.old ≡ 256)
         × (table.now ≡ remainders) }
     ensures out_after { out.new
-        ≡ block (withSlot16 payload.now (xy ∷ []) abcd.now) overhead.now k b }
+        ≡ block (with_slot16 payload.now (xy ∷ []) abcd.now) overhead.now k b }
     ensures value { (result ≡ block_check out.new 0) × (result < 16) }
 {
     for i in 0..8 {
@@ -116,8 +116,8 @@ fn write_multiframe(
     requires { Inputs payload.now overhead.now k 1 × Given (xy ∷ []) abcd.now 1 × (length out.old ≡ 512)
         × (table.now ≡ remainders) }
     ensures out_after { out.new
-        ≡ written (withSlot16 payload.now (xy ∷ []) abcd.now) overhead.now k 2 }
-    ensures value { result ≡ carries (withSlot16 payload.now (xy ∷ []) abcd.now) overhead.now k 2 }
+        ≡ written (with_slot16 payload.now (xy ∷ []) abcd.now) overhead.now k 2 }
+    ensures value { result ≡ carries (with_slot16 payload.now (xy ∷ []) abcd.now) overhead.now k 2 }
 {
     let c = write_block(payload, overhead, k, xy, abcd, 0, &mut out[0..256], table);
     write_block(payload, overhead, c, xy, abcd, 1, &mut out[256..512], table)
@@ -127,9 +127,9 @@ fn write_multiframe(
 fn write_all(payload: &[u8], overhead: &[u8], k: u8, xy: &[u8], abcd: &[u8], out: &mut [u8]) -> u8
     requires { Inputs payload.now overhead.now k (length xy.now) × Given xy.now abcd.now (length xy.now)
         × (length xy.now ≤ 16) × (512 * length xy.now ≤ length out.old) }
-    ensures out_after { out.new ≡ written (withSlot16 payload.now xy.now abcd.now) overhead.now k
+    ensures out_after { out.new ≡ written (with_slot16 payload.now xy.now abcd.now) overhead.now k
         (2 * length xy.now) ++ drop (512 * length xy.now) out.old }
-    ensures value { result ≡ carries (withSlot16 payload.now xy.now abcd.now) overhead.now k
+    ensures value { result ≡ carries (with_slot16 payload.now xy.now abcd.now) overhead.now k
         (2 * length xy.now) }
 {
     let table = crc::table::remainders();

@@ -6,53 +6,53 @@ use mathlib.Core.List.{List, [], ◌∷◌, ◌++◌}
 use native.Mathlib.Omega.{arith}
 use lib.Dec.{ltb}
 use lib.ListN.{length, drop}
-use Rattle.base.specs.Answer.{accepted, Refusal, ◌when◌, first_of}
+use Rattle.base.specs.Answer.{accepted, Refusal, ◌when◌, first_number}
 use Rattle.base.specs.Choice.{if◌then◌else◌}
-use Rattle.base.proofs.AnswerLaws.{accepted-so, accepted-not, accepted-single, joined-first, joined-then}
-use Rattle.base.proofs.TabLaws.{length-tab}
+use Rattle.base.proofs.AnswerLaws.{accepted_so, accepted_not, accepted_single, joined_first, joined_then}
+use Rattle.base.proofs.TabLaws.{length_tab}
 use Rattle.read.specs.Entry.{unplaced, located}
 use Rattle.read.specs.declared.Located.{Located}
-use Rattle.read.proofs.Measures.{located-number}
-use Rattle.signals.specs.Signalling.{readIn, abcdIn, xyIn}
-use Rattle.signals.specs.Entry.{slot16Of, slot16In, filled, refusal, accept, refuse, signalling, Signalled}
+use Rattle.read.proofs.Measures.{located_number}
+use Rattle.signals.specs.Signalling.{read_in, abcd_in, xy_in}
+use Rattle.signals.specs.Entry.{slot16_of, slot16_in, filled, refusal, accept, refuse, signalling, Signalled}
 use Rattle.signals.specs.Follow.{followed}
 use Rattle.signals.specs.declared.Followed.{Followed}
 use Rattle.signals.specs.declared.Signalling.{Signalling}
 
-pub slot16-length : (s : List ℕ) (q g : ℕ) → length (slot16Of s q g) ≡ 16 * g
-unfolding slot16Of
-slot16-length s q g = length-tab (16 * g) _
+pub slot16_length : (s : List ℕ) (q g : ℕ) → length (slot16_of s q g) ≡ 16 * g
+unfolding slot16_of
+slot16_length s q g = length_tab (16 * g) _
 
-pub abcd-length : (t : List ℕ) (n : ℕ) → length (abcdIn t n) ≡ 30 * readIn t n
-unfolding abcdIn
-abcd-length t n = length-tab (30 * readIn t n) _
+pub abcd_length : (t : List ℕ) (n : ℕ) → length (abcd_in t n) ≡ 30 * read_in t n
+unfolding abcd_in
+abcd_length t n = length_tab (30 * read_in t n) _
 
 -- The number: what the image is refused for comes first
 
 module _ (s : List ℕ) (a : ℕ) where
   abbrev last : List Refusal
-  last = 4 when ltb a (filled (slot16In s)) ∷ []
+  last = 4 when ltb a (filled (slot16_in s)) ∷ []
 
-  pub unplaced-first : (n : ℕ) → n ≡ first_of (unplaced s) → (n ≡ 0 → ⊥) → refusal s a ≡ n
+  pub unplaced_first : (n : ℕ) → n ≡ first_number (unplaced s) → (n ≡ 0 → ⊥) → refusal s a ≡ n
   unfolding refusal
-  unplaced-first n e h = joined-first last (unplaced s) refl n e h
+  unplaced_first n e h = joined_first last (unplaced s) refl n e h
 
-  pub placed-then : first_of (unplaced s) ≡ 0 → (t : Bool) → ltb a (filled (slot16In s)) ≡ t → refusal s a ≡ (if t then 4 else 0)
+  pub placed_then : first_number (unplaced s) ≡ 0 → (t : Bool) → ltb a (filled (slot16_in s)) ≡ t → refusal s a ≡ (if t then 4 else 0)
   unfolding refusal
-  placed-then z t e = joined-then last (unplaced s) refl z ∙ ap (λ t. if t then 4 else 0) e
+  placed_then z t e = joined_then last (unplaced s) refl z ∙ ap (λ t. if t then 4 else 0) e
 
 -- The results
 
 module _ (s out : List ℕ) where
   abbrev t : List ℕ
-  t = slot16In s
+  t = slot16_in s
 
   abbrev number : ℕ
   number = refusal s (length out)
 
-  pub signals-number : (r : Signalling) (o : List ℕ) → Signalled s out r o → r.number ≡ number
+  pub signals_number : (r : Signalling) (o : List ℕ) → Signalled s out r o → r.number ≡ number
   unfolding signalling accept
-  signals-number r o h = ap (λ (x : Signalling). x.number) h.its-answer ∙ go number
+  signals_number r o h = ap (λ (x : Signalling). x.number) h.its_answer ∙ go number
     where
       go : (n : ℕ) → (accepted n (accept t) (refuse n)).number ≡ n
       go zero = refl
@@ -62,44 +62,44 @@ module _ (s out : List ℕ) where
   unfolding signalling
   refused_as n e h =
       record {
-        its-answer = sym (ap refuse e) ∙ sym (accepted-not number (accept t) (refuse number) (λ z. h (sym e ∙ z)));
-        its_out = sym (accepted-not n (abcdIn t (length t) ++ drop (filled t) out) out h);
+        its_answer = sym (ap refuse e) ∙ sym (accepted_not number (accept t) (refuse number) (λ z. h (sym e ∙ z)));
+        its_out = sym (accepted_not n (abcd_in t (length t) ++ drop (filled t) out) out h);
       }
 
-  pub accepted-as : (r : Signalling) (o : List ℕ) → number ≡ 0 → r ≡ accept t → o ≡ abcdIn t (length t) ++ drop (filled t) out
+  pub accepted_as : (r : Signalling) (o : List ℕ) → number ≡ 0 → r ≡ accept t → o ≡ abcd_in t (length t) ++ drop (filled t) out
       → Signalled s out r o
   unfolding signalling accept
-  accepted-as r o z e k =
+  accepted_as r o z e k =
       record {
-        its-answer = e ∙ sym (accepted-so number (accept t) (refuse number) z);
-        its_out = k ∙ sym (accepted-so r.number _ out (ap (λ (x : Signalling). x.number) e));
+        its_answer = e ∙ sym (accepted_so number (accept t) (refuse number) z);
+        its_out = k ∙ sym (accepted_so r.number _ out (ap (λ (x : Signalling). x.number) e));
       }
 
-  pub signals-accepted : (r : Signalling) (o : List ℕ) → Signalled s out r o → r.number ≡ 0
-      → (r ≡ accept t) × (o ≡ abcdIn t (length t) ++ drop (filled t) out)
+  pub signals_accepted : (r : Signalling) (o : List ℕ) → Signalled s out r o → r.number ≡ 0
+      → (r ≡ accept t) × (o ≡ abcd_in t (length t) ++ drop (filled t) out)
   unfolding signalling
-  signals-accepted r o h z = (
-    h.its-answer ∙ accepted-so number (accept t) (refuse number) (sym (signals-number r o h) ∙ z),
-    h.its_out ∙ accepted-so r.number _ out z,
+  signals_accepted r o h z = (
+    h.its_answer ∙ accepted_so number (accept t) (refuse number) (sym (signals_number r o h) ∙ z),
+    h.its_out ∙ accepted_so r.number _ out z,
   )
 
-  pub signals-single : (r r' : Signalling) (o o' : List ℕ) → Signalled s out r o → Signalled s out r' o' → (r ≡ r') × (o ≡ o')
-  signals-single r r' o o' h h' =
-      let e : r ≡ r' = h.its-answer ∙ sym h'.its-answer in
-      (e, accepted-single _ _ _ _ _ _ (ap (λ (x : Signalling). x.number) e) h.its_out h'.its_out)
+  pub signals_single : (r r' : Signalling) (o o' : List ℕ) → Signalled s out r o → Signalled s out r' o' → (r ≡ r') × (o ≡ o')
+  signals_single r r' o o' h h' =
+      let e : r ≡ r' = h.its_answer ∙ sym h'.its_answer in
+      (e, accepted_single _ _ _ _ _ _ (ap (λ (x : Signalling). x.number) e) h.its_out h'.its_out)
 
   -- a refusal is zeros beside its number, and the output as it was
-  pub signals-refused : (r : Signalling) (o : List ℕ) (n : ℕ) → Signalled s out r o → r.number ≡ suc n
+  pub signals_refused : (r : Signalling) (o : List ℕ) (n : ℕ) → Signalled s out r o → r.number ≡ suc n
       → (r ≡ refuse (suc n)) × (o ≡ out)
-  signals-refused r o n h e =
-      signals-single r (refuse (suc n)) o out h (refused_as (suc n) (sym (signals-number r o h) ∙ e) (λ z. omega arith))
+  signals_refused r o n h e =
+      signals_single r (refuse (suc n)) o out h (refused_as (suc n) (sym (signals_number r o h) ∙ e) (λ z. omega arith))
 
   -- what `locate` refuses
-  pub unplaced-as : (l : Located) → l ≡ located s → (l.number ≡ 0 → ⊥) → Signalled s out (refuse l.number) out
-  unplaced-as l e h = refused_as l.number (unplaced-first s (length out) l.number (located-number s l e) h) h
+  pub unplaced_as : (l : Located) → l ≡ located s → (l.number ≡ 0 → ⊥) → Signalled s out (refuse l.number) out
+  unplaced_as l e h = refused_as l.number (unplaced_first s (length out) l.number (located_number s l e) h) h
 
 -- the answer from what is found
-pub answer-found : (t : List ℕ) (r : Followed) (x : ℕ) → r ≡ followed t → x ≡ xyIn t (length t)
+pub answer_found : (t : List ℕ) (r : Followed) (x : ℕ) → r ≡ followed t → x ≡ xy_in t (length t)
     → record {
       number = 0;
       multiframes = r.multiframes;
@@ -113,7 +113,7 @@ pub answer-found : (t : List ℕ) (r : Followed) (x : ℕ) → r ≡ followed t 
       starts = r.starts;
     } ≡ accept t
 unfolding accept followed
-answer-found t r x e k = λ i.
+answer_found t r x e k = λ i.
     record {
       number = 0;
       multiframes = (e i).multiframes;

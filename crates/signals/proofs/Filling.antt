@@ -5,41 +5,41 @@ use mathlib.Core.List.{List, ◌++◌}
 use native.Mathlib.Omega.{arith}
 use borrow.Rule.Slice.PartMut.{put_mid}
 use lib.ListN.{length, get_or, take, drop}
-use Rattle.base.specs.Tab.{tab, tabFrom}
-use Rattle.base.proofs.TabLaws.{tab-agree}
-use Rattle.base.proofs.PartLaws.{part-more, part-rest, parts-kept}
-use Rattle.signals.specs.Signalling.{startsIn, readIn, abcdAt, abcdIn}
+use Rattle.base.specs.Tab.{tab, tab_from}
+use Rattle.base.proofs.TabLaws.{tab_agree}
+use Rattle.base.proofs.PartLaws.{part_more, part_rest, parts_kept}
+use Rattle.signals.specs.Signalling.{starts_in, read_in, abcd_at, abcd_in}
 use Rattle.signals.specs.Entry.{filled}
 use Rattle.signals.specs.Follow.{followed, channels}
 use Rattle.signals.specs.declared.Followed.{Followed}
-use Rattle.signals.proofs.Found.{found-read, found-few, found-start, found_within, channels-part}
+use Rattle.signals.proofs.Found.{found_read, found_few, found_start, found_within, channels_part}
 
 -- octet i of the output
-abbrev octetOf : List ℕ → ℕ → ℕ
-octetOf t i = abcdAt t (get_or (startsIn t (length t)) (i / 30) 0) (i % 30 + 1)
+abbrev octet_of : List ℕ → ℕ → ℕ
+octet_of t i = abcd_at t (get_or (starts_in t (length t)) (i / 30) 0) (i % 30 + 1)
 
 -- what stands in the output when m are written; out₀ is what stood there
 pub record Filling (t out₀ starts : List ℕ) (n : ℕ) (out : List ℕ) (m : ℕ) : Type 0 where
   pub found : Followed
-  pub its-found : found ≡ followed t
-  pub its-starts : starts ≡ found.starts
-  pub its-read : n ≡ found.multiframes
+  pub its_found : found ≡ followed t
+  pub its_starts : starts ≡ found.starts
+  pub its_read : n ≡ found.multiframes
   pub short : length t ≤ 256
   pub roomy : filled t ≤ length out₀
   pub upto : m ≤ n
   pub long : length out ≡ length out₀
-  pub written : take (30 * m) out ≡ tab (30 * m) (octetOf t)
+  pub written : take (30 * m) out ≡ tab (30 * m) (octet_of t)
   pub kept : drop (30 * m) out ≡ drop (30 * m) out₀
 
 pub none_filled : (t out₀ : List ℕ) (r : Followed) → r ≡ followed t → length t ≤ 256 → filled t ≤ length out₀
     → Filling t out₀ r.starts r.multiframes out₀ 0
-unfolding tabFrom
+unfolding tab_from
 none_filled t out₀ r e s l =
     record {
       found = r;
-      its-found = e;
-      its-starts = refl;
-      its-read = refl;
+      its_found = e;
+      its_starts = refl;
+      its_read = refl;
       short = s;
       roomy = l;
       upto = omega arith;
@@ -49,11 +49,11 @@ none_filled t out₀ r e s l =
     }
 
 module _ {t out₀ starts : List ℕ} {n : ℕ} {out : List ℕ} {m : ℕ} (p : Filling t out₀ starts n out m) where
-  all_read : n ≡ readIn t (length t)
-  all_read = p.its-read ∙ found-read t p.found p.its-found
+  all_read : n ≡ read_in t (length t)
+  all_read = p.its_read ∙ found_read t p.found p.its_found
 
   pub few : n ≤ 15
-  few = omega (arith, p.its-read, found-few t p.found p.its-found p.short)
+  few = omega (arith, p.its_read, found_few t p.found p.its_found p.short)
 
   -- the next
   module _ (l : m < n) where
@@ -61,10 +61,10 @@ module _ {t out₀ starts : List ℕ} {n : ℕ} {out : List ℕ} {m : ℕ} (p : 
     room = omega (arith, all_read, p.roomy, p.long)
 
     here : m < p.found.multiframes
-    here = omega (arith, p.its-read)
+    here = omega (arith, p.its_read)
 
     pub there : get_or starts m 0 + 16 ≤ length t
-    there = rw p.its-starts (found_within t p.found p.its-found m here)
+    there = rw p.its_starts (found_within t p.found p.its_found m here)
 
     pub filled_more : (ys : List ℕ)
         → ys ≡ channels (take (get_or starts m 0 + 16 - get_or starts m 0) (drop (get_or starts m 0) t)) 0
@@ -73,36 +73,36 @@ module _ {t out₀ starts : List ℕ} {n : ℕ} {out : List ℕ} {m : ℕ} (p : 
     unfolding channels
     filled_more ys y k =
         let a = get_or starts m 0 in
-        let f : a ≡ get_or (startsIn t (length t)) m 0 = ap (λ s. get_or s m 0) p.its-starts ∙ found-start t p.found p.its-found m here in
+        let f : a ≡ get_or (starts_in t (length t)) m 0 = ap (λ s. get_or s m 0) p.its_starts ∙ found_start t p.found p.its_found m here in
         let e : 30 * (m + 1) ≡ 30 * m + 30 = omega arith in
         let z : 30 * m + 30 - 30 * m ≡ 30 = omega arith in
-        let its : ys ≡ tab (30 * m + 30 - 30 * m) (λ i. octetOf t (30 * m + i)) =
-        y ∙ channels-part t a (a + 16 - a) (omega arith)
-        ∙ tab-agree 30 (λ i. abcdAt t a (i + 1)) (λ i. octetOf t (30 * m + i))
+        let its : ys ≡ tab (30 * m + 30 - 30 * m) (λ i. octet_of t (30 * m + i)) =
+        y ∙ channels_part t a (a + 16 - a) (omega arith)
+        ∙ tab_agree 30 (λ i. abcd_at t a (i + 1)) (λ i. octet_of t (30 * m + i))
         (λ i h.
         let q : (30 * m + i) / 30 ≡ m = omega arith in
         let r : (30 * m + i) % 30 ≡ i = omega arith in
-        ap (λ a. abcdAt t a (i + 1)) f ∙ sym (ap₂ (λ q r. abcdAt t (get_or (startsIn t (length t)) q 0) (r + 1)) q r))
-        ∙ ap (λ n. tab n (λ i. octetOf t (30 * m + i))) (sym z) in
+        ap (λ a. abcd_at t a (i + 1)) f ∙ sym (ap₂ (λ q r. abcd_at t (get_or (starts_in t (length t)) q 0) (r + 1)) q r))
+        ∙ ap (λ n. tab n (λ i. octet_of t (30 * m + i))) (sym z) in
         record {
           found = p.found;
-          its-found = p.its-found;
-          its-starts = p.its-starts;
-          its-read = p.its-read;
+          its_found = p.its_found;
+          its_starts = p.its_starts;
+          its_read = p.its_read;
           short = p.short;
           roomy = p.roomy;
           upto = omega arith;
           long = k ∙ p.long;
           written = ap (λ n. take n (put_mid (30 * m) (30 * m + 30 - 30 * m) out ys)) e
-              ∙ part-more (octetOf t) (30 * m) (30 * m + 30) out ys (omega arith) room its p.written
-              ∙ ap (λ n. tab n (octetOf t)) (sym e);
+              ∙ part_more (octet_of t) (30 * m) (30 * m + 30) out ys (omega arith) room its p.written
+              ∙ ap (λ n. tab n (octet_of t)) (sym e);
           kept = ap (λ n. drop n (put_mid (30 * m) (30 * m + 30 - 30 * m) out ys)) e
-              ∙ part-rest (octetOf t) (30 * m) (30 * m + 30) out ys (omega arith) room its out₀ p.kept
+              ∙ part_rest (octet_of t) (30 * m) (30 * m + 30) out ys (omega arith) room its out₀ p.kept
               ∙ ap (λ n. drop n out₀) (sym e);
         }
 
   -- all of them
-  pub all-filled : n ≤ m → out ≡ abcdIn t (length t) ++ drop (filled t) out₀
-  unfolding abcdIn
-  all-filled l =
-      parts-kept (octetOf t) (filled t) (30 * m) out out₀ (omega (arith, all_read, p.upto)) p.written p.kept
+  pub all_filled : n ≤ m → out ≡ abcd_in t (length t) ++ drop (filled t) out₀
+  unfolding abcd_in
+  all_filled l =
+      parts_kept (octet_of t) (filled t) (30 * m) out out₀ (omega (arith, all_read, p.upto)) p.written p.kept

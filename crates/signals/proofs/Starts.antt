@@ -12,37 +12,37 @@ use lib.ListN.{length, get_or, length-append, get_or-append}
 use lib.Seq.{get_or_at}
 use Rattle.base.specs.Choice.{if◌then◌else◌}
 use Rattle.base.proofs.TabLaws.{count_yes, count_no}
-use Rattle.signals.specs.Signalling.{Walk, begun, step, walk, ends, loses, startsIn, readIn, lossesIn}
-use Rattle.signals.proofs.Laws.{walk_more, inside, step-passed, passed-most, passed-few}
+use Rattle.signals.specs.Signalling.{Walk, begun, step, walk, ends, loses, starts_in, read_in, losses_in}
+use Rattle.signals.proofs.Laws.{walk_more, inside, step_passed, passed_most, passed_few}
 
 module _ (t : List ℕ) where
-  starts_more : (f : ℕ) → startsIn t (f + 1) ≡ startsIn t f ++ (if ends t f then (f - 15) ∷ [] else [])
-  unfolding startsIn
-  starts_more f = ap (startsIn t) (add-one f)
+  starts_more : (f : ℕ) → starts_in t (f + 1) ≡ starts_in t f ++ (if ends t f then (f - 15) ∷ [] else [])
+  unfolding starts_in
+  starts_more f = ap (starts_in t) (add-one f)
 
   -- one more
-  pub starts-new : (f : ℕ) → (walk t (f + 1)).passed ≡ 16 → startsIn t (f + 1) ≡ startsIn t f ++ (f - 15) ∷ []
+  pub starts_new : (f : ℕ) → (walk t (f + 1)).passed ≡ 16 → starts_in t (f + 1) ≡ starts_in t f ++ (f - 15) ∷ []
   unfolding ends
-  starts-new f e =
+  starts_new f e =
       let here : ends t f ≡ true = eq-eqb (walk t (f + 1)).passed 16 e in
-      starts_more f ∙ ap (λ b. startsIn t f ++ (if b then (f - 15) ∷ [] else [])) here
+      starts_more f ∙ ap (λ b. starts_in t f ++ (if b then (f - 15) ∷ [] else [])) here
 
   -- or none
-  pub starts-kept : (f : ℕ) → ((walk t (f + 1)).passed ≡ 16 → ⊥) → startsIn t (f + 1) ≡ startsIn t f
+  pub starts_kept : (f : ℕ) → ((walk t (f + 1)).passed ≡ 16 → ⊥) → starts_in t (f + 1) ≡ starts_in t f
   unfolding ends
-  starts-kept f h =
-      starts_more f ∙ ap (λ b. startsIn t f ++ (if b then (f - 15) ∷ [] else [])) (ne_eqb (walk t (f + 1)).passed 16 h)
-      ∙ append-nil (startsIn t f)
+  starts_kept f h =
+      starts_more f ∙ ap (λ b. starts_in t f ++ (if b then (f - 15) ∷ [] else [])) (ne_eqb (walk t (f + 1)).passed 16 h)
+      ∙ append-nil (starts_in t f)
 
   -- a loss more
-  pub losses-more : (f : ℕ) → (walk t f).passed ≡ 16 → (walk t (f + 1)).passed ≡ 0 → lossesIn t (f + 1) ≡ lossesIn t f + 1
-  unfolding lossesIn loses
-  losses-more f a b = count_yes f (loses t) (rw (a, b))
+  pub losses_more : (f : ℕ) → (walk t f).passed ≡ 16 → (walk t (f + 1)).passed ≡ 0 → losses_in t (f + 1) ≡ losses_in t f + 1
+  unfolding losses_in loses
+  losses_more f a b = count_yes f (loses t) (rw (a, b))
 
   -- or none
-  pub losses-kept : (f : ℕ) → ((walk t f).passed ≡ 16 → (walk t (f + 1)).passed ≡ 0 → ⊥) → lossesIn t (f + 1) ≡ lossesIn t f
-  unfolding lossesIn loses
-  losses-kept f h = count_no f (loses t) (go (eqb (walk t f).passed 16) (eqb (walk t (f + 1)).passed 0) refl refl)
+  pub losses_kept : (f : ℕ) → ((walk t f).passed ≡ 16 → (walk t (f + 1)).passed ≡ 0 → ⊥) → losses_in t (f + 1) ≡ losses_in t f
+  unfolding losses_in loses
+  losses_kept f h = count_no f (loses t) (go (eqb (walk t f).passed 16) (eqb (walk t (f + 1)).passed 0) refl refl)
     where
       go : (a b : Bool) → eqb (walk t f).passed 16 ≡ a → eqb (walk t (f + 1)).passed 0 ≡ b → a && b ≡ false
       go true true p q = absurd (h (eqb-true (walk t f).passed 16 p) (eqb-true (walk t (f + 1)).passed 0 q))
@@ -54,46 +54,46 @@ module _ (t : List ℕ) where
     at : (k : ℕ) → k ≤ 15 → (walk t (f + 1 + k)).passed ≡ k + 1
     at k l = ap (λ (w : Walk). w.passed) (inside t f b k l)
 
-    pub starts-inside : (k : ℕ) → k ≤ 14 → startsIn t (f + 1 + k) ≡ startsIn t f
-    starts-inside zero l =
+    pub starts_inside : (k : ℕ) → k ≤ 14 → starts_in t (f + 1 + k) ≡ starts_in t f
+    starts_inside zero l =
         let z : f + 1 + 0 ≡ f + 1 = omega arith in
-        ap (startsIn t) z ∙ starts-kept f (λ e. omega (arith, ap (λ (w : Walk). w.passed) b))
-    starts-inside (suc k) l =
+        ap (starts_in t) z ∙ starts_kept f (λ e. omega (arith, ap (λ (w : Walk). w.passed) b))
+    starts_inside (suc k) l =
         let z : f + 1 + suc k ≡ f + 1 + k + 1 = omega arith in
-        ap (startsIn t) z
-        ∙ starts-kept (f + 1 + k) (λ e. omega (arith, sym (ap (λ n. (walk t n).passed) z) ∙ at (suc k) (omega arith)))
-        ∙ starts-inside k (omega arith)
+        ap (starts_in t) z
+        ∙ starts_kept (f + 1 + k) (λ e. omega (arith, sym (ap (λ n. (walk t n).passed) z) ∙ at (suc k) (omega arith)))
+        ∙ starts_inside k (omega arith)
 
-    pub losses-inside : (k : ℕ) → k ≤ 15 → lossesIn t (f + 1 + k) ≡ lossesIn t f
-    losses-inside zero l =
+    pub losses_inside : (k : ℕ) → k ≤ 15 → losses_in t (f + 1 + k) ≡ losses_in t f
+    losses_inside zero l =
         let z : f + 1 + 0 ≡ f + 1 = omega arith in
-        ap (lossesIn t) z ∙ losses-kept f (λ d e. omega (arith, ap (λ (w : Walk). w.passed) b))
-    losses-inside (suc k) l =
+        ap (losses_in t) z ∙ losses_kept f (λ d e. omega (arith, ap (λ (w : Walk). w.passed) b))
+    losses_inside (suc k) l =
         let z : f + 1 + suc k ≡ f + 1 + k + 1 = omega arith in
-        ap (lossesIn t) z
-        ∙ losses-kept (f + 1 + k) (λ d e. omega (arith, sym (ap (λ n. (walk t n).passed) z) ∙ at (suc k) (omega arith)))
-        ∙ losses-inside k (omega arith)
+        ap (losses_in t) z
+        ∙ losses_kept (f + 1 + k) (λ d e. omega (arith, sym (ap (λ n. (walk t n).passed) z) ∙ at (suc k) (omega arith)))
+        ∙ losses_inside k (omega arith)
 
     -- with its last frame it is one more
-    pub starts-whole : startsIn t (f + 16) ≡ startsIn t f ++ f ∷ []
-    starts-whole =
+    pub starts_whole : starts_in t (f + 16) ≡ starts_in t f ++ f ∷ []
+    starts_whole =
         let z : f + 16 ≡ f + 1 + 14 + 1 = omega arith in
         let y : f + 1 + 15 ≡ f + 1 + 14 + 1 = omega arith in
         let x : f + 1 + 14 - 15 ≡ f = omega arith in
-        ap (startsIn t) z
-        ∙ starts-new (f + 1 + 14) (sym (ap (λ n. (walk t n).passed) y) ∙ at 15 (lit≤ tt))
-        ∙ ap₂ (λ l a. l ++ a ∷ []) (starts-inside 14 (lit≤ tt)) x
+        ap (starts_in t) z
+        ∙ starts_new (f + 1 + 14) (sym (ap (λ n. (walk t n).passed) y) ∙ at 15 (lit≤ tt))
+        ∙ ap₂ (λ l a. l ++ a ∷ []) (starts_inside 14 (lit≤ tt)) x
 
-    pub losses-whole : lossesIn t (f + 16) ≡ lossesIn t f
-    losses-whole = let z : f + 16 ≡ f + 1 + 15 = omega arith in ap (lossesIn t) z ∙ losses-inside 15 (lit≤ tt)
+    pub losses_whole : losses_in t (f + 16) ≡ losses_in t f
+    losses_whole = let z : f + 16 ≡ f + 1 + 15 = omega arith in ap (losses_in t) z ∙ losses_inside 15 (lit≤ tt)
 
   -- How many are read
 
-  read-new : (f : ℕ) → (walk t (f + 1)).passed ≡ 16 → readIn t (f + 1) ≡ readIn t f + 1
-  read-new f e = ap length (starts-new f e) ∙ length-append (startsIn t f) ((f - 15) ∷ [])
+  read_new : (f : ℕ) → (walk t (f + 1)).passed ≡ 16 → read_in t (f + 1) ≡ read_in t f + 1
+  read_new f e = ap length (starts_new f e) ∙ length-append (starts_in t f) ((f - 15) ∷ [])
 
-  read_kept : (f : ℕ) → ((walk t (f + 1)).passed ≡ 16 → ⊥) → readIn t (f + 1) ≡ readIn t f
-  read_kept f h = ap length (starts-kept f h)
+  read_kept : (f : ℕ) → ((walk t (f + 1)).passed ≡ 16 → ⊥) → read_in t (f + 1) ≡ read_in t f
+  read_kept f h = ap length (starts_kept f h)
 
   -- a frame with which one more is read, or none
   either : {P : Type 0} (f : ℕ) → ((walk t (f + 1)).passed ≡ 16 → P) → (((walk t (f + 1)).passed ≡ 16 → ⊥) → P) → P
@@ -104,43 +104,43 @@ module _ (t : List ℕ) where
       go false e = k (eqb-false (walk t (f + 1)).passed 16 e)
 
   -- those that are read, and what has passed of the next, take up the frames but the first
-  read-few : (f : ℕ) → 16 * readIn t f + (walk t f).passed % 16 ≤ f - 1
-  unfolding startsIn walk
-  read-few zero = lit≤ tt
-  read-few (suc f) = subst (λ n. 16 * readIn t n + (walk t n).passed % 16 ≤ n - 1) (add-one f) (next f (read-few f))
+  read_few : (f : ℕ) → 16 * read_in t f + (walk t f).passed % 16 ≤ f - 1
+  unfolding starts_in walk
+  read_few zero = lit≤ tt
+  read_few (suc f) = subst (λ n. 16 * read_in t n + (walk t n).passed % 16 ≤ n - 1) (add-one f) (next f (read_few f))
     where
-      next : (f : ℕ) → 16 * readIn t f + (walk t f).passed % 16 ≤ f - 1 → 16 * readIn t (f + 1) + (walk t (f + 1)).passed % 16 ≤ f + 1 - 1
+      next : (f : ℕ) → 16 * read_in t f + (walk t f).passed % 16 ≤ f - 1 → 16 * read_in t (f + 1) + (walk t (f + 1)).passed % 16 ≤ f + 1 - 1
       next f h =
           let w : (walk t (f + 1)).passed ≡ (step t f (walk t f)).passed = ap (λ (w : Walk). w.passed) (walk_more t f) in
-          let n = step-passed t f (walk t f) (passed-most t f) in
-          let k = passed-few t (f + 1) in
-          either f (λ q. omega (arith, read-new f q)) (λ q. omega (arith, read_kept f q))
+          let n = step_passed t f (walk t f) (passed_most t f) in
+          let k = passed_few t (f + 1) in
+          either f (λ q. omega (arith, read_new f q)) (λ q. omega (arith, read_kept f q))
 
-  pub few-read : (n : ℕ) → 16 * readIn t n ≤ n - 1
-  few-read n = omega (arith, read-few n)
+  pub few_read : (n : ℕ) → 16 * read_in t n ≤ n - 1
+  few_read n = omega (arith, read_few n)
 
   -- what holds of a signalling multiframe whose last frame is f holds of each that is read
-  pub each_start : (P : ℕ → Type 0) (n : ℕ) → ((f : ℕ) → f < n → (walk t (f + 1)).passed ≡ 16 → P (f - 15)) → (m : ℕ) → m < readIn t n
-      → P (get_or (startsIn t n) m 0)
-  unfolding startsIn
+  pub each_start : (P : ℕ → Type 0) (n : ℕ) → ((f : ℕ) → f < n → (walk t (f + 1)).passed ≡ 16 → P (f - 15)) → (m : ℕ) → m < read_in t n
+      → P (get_or (starts_in t n) m 0)
+  unfolding starts_in
   each_start P zero h = λ m l. absurd (omega arith)
   each_start P (suc n) h =
-      subst (λ n. (m : ℕ) → m < readIn t n → P (get_or (startsIn t n) m 0)) (add-one n)
+      subst (λ n. (m : ℕ) → m < read_in t n → P (get_or (starts_in t n) m 0)) (add-one n)
       (next n (h n (omega arith)) (each_start P n (λ f l. h f (omega arith))))
     where
-      next : (n : ℕ) → ((walk t (n + 1)).passed ≡ 16 → P (n - 15)) → ((m : ℕ) → m < readIn t n → P (get_or (startsIn t n) m 0))
-          → (m : ℕ) → m < readIn t (n + 1) → P (get_or (startsIn t (n + 1)) m 0)
+      next : (n : ℕ) → ((walk t (n + 1)).passed ≡ 16 → P (n - 15)) → ((m : ℕ) → m < read_in t n → P (get_or (starts_in t n) m 0))
+          → (m : ℕ) → m < read_in t (n + 1) → P (get_or (starts_in t (n + 1)) m 0)
       next n h g m l =
           either n
           (λ q.
-          let e = read-new n q in
-          rw (starts-new n q)
-          (elim (dec_lt m (readIn t n)) [
-            | yes k ↦ rw (get_or-append (startsIn t n) ((n - 15) ∷ []) 0 m k) (g m k)
-            | no k ↦ rw (get_or_at (startsIn t n) (n - 15) [] 0 m (omega arith)) (h q)
+          let e = read_new n q in
+          rw (starts_new n q)
+          (elim (dec_lt m (read_in t n)) [
+            | yes k ↦ rw (get_or-append (starts_in t n) ((n - 15) ∷ []) 0 m k) (g m k)
+            | no k ↦ rw (get_or_at (starts_in t n) (n - 15) [] 0 m (omega arith)) (h q)
           ]))
-          (λ q. rw (starts-kept n q) (g m (omega (arith, read_kept n q))))
+          (λ q. rw (starts_kept n q) (g m (omega (arith, read_kept n q))))
 
   -- so each is whole
-  pub start-within : (n m : ℕ) → m < readIn t n → get_or (startsIn t n) m 0 + 16 ≤ n
-  start-within n = each_start (λ a. a + 16 ≤ n) n (λ f l e. omega (arith, passed-few t (f + 1)))
+  pub start_within : (n m : ℕ) → m < read_in t n → get_or (starts_in t n) m 0 + 16 ≤ n
+  start_within n = each_start (λ a. a + 16 ≤ n) n (λ f l e. omega (arith, passed_few t (f + 1)))

@@ -1,30 +1,30 @@
 -- What `signals` answers, and what it leaves in the output (KIT §5).
 use Rattle.std.specs.Prelude.{ℕ, ◌-◌, ◌*◌, ◌/◌, ◌%◌, false, ◌≡◌, List, [], ◌∷◌, ◌++◌, ltb, length, drop, replicate}
-use Rattle.base.specs.Answer.{accepted, Refusal, ◌when◌, first_of}
+use Rattle.base.specs.Answer.{accepted, Refusal, ◌when◌, first_number}
 use Rattle.base.specs.Tab.{tab}
-use Rattle.line.specs.Bit.{octetAt}
+use Rattle.line.specs.Bit.{octet_at}
 use Rattle.e1.specs.Frame.{slot_at}
-use Rattle.read.specs.Entry.{start_in, usedIn, unplaced}
-use Rattle.signals.specs.Signalling.{startsIn, readIn, firstIn, lossesIn, heldIn, abcdIn, xyIn}
+use Rattle.read.specs.Entry.{start_in, used_in, unplaced}
+use Rattle.signals.specs.Signalling.{starts_in, read_in, first_in, losses_in, held_in, abcd_in, xy_in}
 use Rattle.signals.specs.declared.Signalling.{Signalling}
 
 -- slot 16 of the frames of g multiframes from q on, and of those of an image that are used
-unfoldable pub slot16Of : List ℕ → ℕ → ℕ → List ℕ
-slot16Of s q g = tab (16 * g) (λ f. octetAt s (slot_at q f 16))
+unfoldable pub slot16_of : List ℕ → ℕ → ℕ → List ℕ
+slot16_of s q g = tab (16 * g) (λ f. octet_at s (slot_at q f 16))
 
-abbrev pub slot16In : List ℕ → List ℕ
-slot16In s = slot16Of s (start_in s) (usedIn s)
+abbrev pub slot16_in : List ℕ → List ℕ
+slot16_in s = slot16_of s (start_in s) (used_in s)
 
 -- how many octets of the output are filled
 abbrev pub filled : List ℕ → ℕ
-filled t = 30 * readIn t (length t)
+filled t = 30 * read_in t (length t)
 
 -- a is how many octets the output has
 abbrev pub refusals : List ℕ → ℕ → List Refusal
-refusals s a = unplaced s ++ 4 when ltb a (filled (slot16In s)) ∷ []
+refusals s a = unplaced s ++ 4 when ltb a (filled (slot16_in s)) ∷ []
 
 unfoldable pub refusal : List ℕ → ℕ → ℕ
-refusal s a = first_of (refusals s a)
+refusal s a = first_number (refusals s a)
 
 -- what an accepted call answers, t the slots 16; past the frames at which a signalling multiframe begins are zeros
 unfoldable pub accept : List ℕ → Signalling
@@ -32,15 +32,15 @@ accept t =
     let n = length t in
     record {
       number = 0;
-      multiframes = readIn t n;
-      first = firstIn t n;
-      losses = lossesIn t n;
-      held = heldIn t n;
-      x0 = xyIn t n / 8 % 2;
-      x1 = xyIn t n / 2 % 2;
-      x2 = xyIn t n % 2;
-      y = xyIn t n / 4 % 2;
-      starts = startsIn t n ++ replicate (16 - readIn t n) 0;
+      multiframes = read_in t n;
+      first = first_in t n;
+      losses = losses_in t n;
+      held = held_in t n;
+      x0 = xy_in t n / 8 % 2;
+      x1 = xy_in t n / 2 % 2;
+      x2 = xy_in t n % 2;
+      y = xy_in t n / 4 % 2;
+      starts = starts_in t n ++ replicate (16 - read_in t n) 0;
     }
 
 -- a refusal: zeros beside the number
@@ -60,10 +60,10 @@ refuse n =
     }
 
 unfoldable pub signalling : List ℕ → ℕ → Signalling
-signalling s a = accepted (refusal s a) (accept (slot16In s)) (refuse (refusal s a))
+signalling s a = accepted (refusal s a) (accept (slot16_in s)) (refuse (refusal s a))
 
 -- what `signals` returns, and leaves in the output
 pub record Signalled (s out : List ℕ) (r : Signalling) (out' : List ℕ) : Type 0 where
-  pub its-answer : r ≡ signalling s (length out)
-  pub its_out : let t = slot16In s in
-      out' ≡ accepted r.number (abcdIn t (length t) ++ drop (filled t) out) out
+  pub its_answer : r ≡ signalling s (length out)
+  pub its_out : let t = slot16_in s in
+      out' ≡ accepted r.number (abcd_in t (length t) ++ drop (filled t) out) out

@@ -2,17 +2,17 @@
 -- first. A signalling multiframe is 16 frames: frame 0 of it has 0000, X0, Y, X1, X2, and frame i, 1 to 15, has A to D
 -- of channel i and then of channel i + 15.
 use Rattle.std.specs.Prelude.{ℕ, zero, suc, ◌+◌, ◌-◌, ◌*◌, ◌/◌, ◌%◌, Bool, false, ◌&&◌, not, List, [], ◌∷◌, ◌++◌, eqb, leb, ltb, length, get_or}
-use Rattle.base.specs.Choice.{if◌then◌else◌, valueOr}
+use Rattle.base.specs.Choice.{if◌then◌else◌, value_or}
 use Rattle.base.specs.Tab.{tab, count, least}
 
 -- frame f has the signal, 0000 in the high four bits
-abbrev pub signalAt : List ℕ → ℕ → Bool
-signalAt t f = eqb (get_or t f 0 / 16) 0
+abbrev pub signal_at : List ℕ → ℕ → Bool
+signal_at t f = eqb (get_or t f 0 / 16) 0
 
 -- alignment can be taken at frame f (G.732): it has the signal, and the frame before it has a 1 somewhere
 unfoldable pub aligns : List ℕ → ℕ → Bool
 aligns t zero = false
-aligns t (suc f) = signalAt t (suc f) && not (eqb (get_or t f 0) 0)
+aligns t (suc f) = signal_at t (suc f) && not (eqb (get_or t f 0) 0)
 
 -- What is known between two frames: how many frames of a signalling multiframe have passed, 1 to 16, or 0 where
 -- alignment is searched for; and whether its signal was wrong.
@@ -25,14 +25,14 @@ searching = record { passed = 0; wrong = false }
 
 -- behind frame f, frame 0 of a signalling multiframe
 abbrev pub begun : List ℕ → ℕ → Walk
-begun t f = record { passed = 1; wrong = not (signalAt t f) }
+begun t f = record { passed = 1; wrong = not (signal_at t f) }
 
 -- frame f: alignment is taken where it can be; behind a whole signalling multiframe the next begins, unless a second
 -- signal in a row is wrong, which is a loss
 unfoldable pub step : List ℕ → ℕ → Walk → Walk
 step t f w =
     if eqb w.passed 0 then (if aligns t f then begun t f else searching) else
-    if eqb w.passed 16 then (if w.wrong && not (signalAt t f) then searching else begun t f) else
+    if eqb w.passed 16 then (if w.wrong && not (signal_at t f) then searching else begun t f) else
     record { passed = w.passed + 1; wrong = w.wrong }
 
 -- behind the first f frames
@@ -49,33 +49,33 @@ loses t f = eqb (walk t f).passed 16 && eqb (walk t (f + 1)).passed 0
 
 -- Of the first n frames: where the signalling multiframes that are read begin, in their order
 
-unfoldable pub startsIn : List ℕ → ℕ → List ℕ
-startsIn t zero = []
-startsIn t (suc f) = startsIn t f ++ (if ends t f then (f - 15) ∷ [] else [])
+unfoldable pub starts_in : List ℕ → ℕ → List ℕ
+starts_in t zero = []
+starts_in t (suc f) = starts_in t f ++ (if ends t f then (f - 15) ∷ [] else [])
 
 -- how many there are; the frame of the first alignment, 0 where there is none; the losses; and whether alignment is held
 -- behind the last frame
 
-abbrev pub readIn : List ℕ → ℕ → ℕ
-readIn t n = length (startsIn t n)
+abbrev pub read_in : List ℕ → ℕ → ℕ
+read_in t n = length (starts_in t n)
 
-unfoldable pub firstIn : List ℕ → ℕ → ℕ
-firstIn t n = valueOr (least n (aligns t)) 0
+unfoldable pub first_in : List ℕ → ℕ → ℕ
+first_in t n = value_or (least n (aligns t)) 0
 
-unfoldable pub lossesIn : List ℕ → ℕ → ℕ
-lossesIn t n = count n (loses t)
+unfoldable pub losses_in : List ℕ → ℕ → ℕ
+losses_in t n = count n (loses t)
 
-unfoldable pub heldIn : List ℕ → ℕ → Bool
-heldIn t n = not (eqb (walk t n).passed 0)
+unfoldable pub held_in : List ℕ → ℕ → Bool
+held_in t n = not (eqb (walk t n).passed 0)
 
 -- A to D of channel c, 1 to 30, of the signalling multiframe that begins at frame a
-abbrev pub abcdAt : List ℕ → ℕ → ℕ → ℕ
-abcdAt t a c = if leb c 15 then get_or t (a + c) 0 / 16 else get_or t (a + (c - 15)) 0 % 16
+abbrev pub abcd_at : List ℕ → ℕ → ℕ → ℕ
+abcd_at t a c = if leb c 15 then get_or t (a + c) 0 / 16 else get_or t (a + (c - 15)) 0 % 16
 
 -- those of all that are read, thirty for each
-unfoldable pub abcdIn : List ℕ → ℕ → List ℕ
-abcdIn t n = tab (30 * readIn t n) (λ i. abcdAt t (get_or (startsIn t n) (i / 30) 0) (i % 30 + 1))
+unfoldable pub abcd_in : List ℕ → ℕ → List ℕ
+abcd_in t n = tab (30 * read_in t n) (λ i. abcd_at t (get_or (starts_in t n) (i / 30) 0) (i % 30 + 1))
 
 -- frame 0 of the last; 11, which is 0000 1 0 1 1, so X 1 and Y 0, where none is read or alignment is not held
-unfoldable pub xyIn : List ℕ → ℕ → ℕ
-xyIn t n = if heldIn t n && ltb 0 (readIn t n) then get_or t (get_or (startsIn t n) (readIn t n - 1) 0) 0 else 11
+unfoldable pub xy_in : List ℕ → ℕ → ℕ
+xy_in t n = if held_in t n && ltb 0 (read_in t n) then get_or t (get_or (starts_in t n) (read_in t n - 1) 0) 0 else 11

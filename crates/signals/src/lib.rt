@@ -1,8 +1,8 @@
 // Signalling in slot 16, read.
 ghost use Rattle.std.specs.Prelude.{◌≡◌, ◌++◌, ◌*◌, ◌≤◌, ◌<◌, length, take, drop};
 ghost use Rattle.line.specs.Bit.{Room};
-ghost use Rattle.signals.specs.Signalling.{signalAt, aligns, abcdIn, xyIn};
-ghost use Rattle.signals.specs.Entry.{slot16Of, filled, refuse, Signalled};
+ghost use Rattle.signals.specs.Signalling.{signal_at, aligns, abcd_in, xy_in};
+ghost use Rattle.signals.specs.Entry.{slot16_of, filled, refuse, Signalled};
 ghost use Rattle.signals.specs.Follow.{begins, followed, channels};
 
 // What is answered: the number is 0, or the refusal's with zeros beside it. `starts` has the frame at which each
@@ -34,7 +34,7 @@ struct Followed {
 // frame f has the signal
 fn signal_at(t: &[u8], f: usize) -> bool
     requires { f < length t.now }
-    ensures { result ≡ signalAt t.now f }
+    ensures { result ≡ signal_at t.now f }
 {
     t[f] / 16 == 0
 }
@@ -124,7 +124,7 @@ fn put_channels(t: &[u8], out: &mut [u8])
 fn put_abcd(t: &[u8], found: Followed, out: &mut [u8])
     requires { (length t.now ≤ 256) × (found ≡ followed t.now) × (filled t.now ≤ length out.old) }
     ensures { out.new
-        ≡ abcdIn t.now (length t.now) ++ drop (filled t.now) out.old }
+        ≡ abcd_in t.now (length t.now) ++ drop (filled t.now) out.old }
 {
     let starts = found.starts;
     for m in 0..found.multiframes {
@@ -137,7 +137,7 @@ fn put_abcd(t: &[u8], found: Followed, out: &mut [u8])
 // frame 0 of the last that is read; X 1 and Y 0 where none is, or alignment is not held
 fn xy(t: &[u8], found: Followed) -> u8
     requires { (length t.now ≤ 256) × (found ≡ followed t.now) }
-    ensures { result ≡ xyIn t.now (length t.now) }
+    ensures { result ≡ xy_in t.now (length t.now) }
 {
     let starts = found.starts;
     if found.held & (0 < found.multiframes) {
@@ -167,7 +167,7 @@ fn refused(number: u64) -> Signalling
 // slot 16 of the frames of g multiframes, 16 at most
 fn slot16_of(s: &[u8], q: usize, g: usize) -> [u8; 256]
     requires { Room s.now q (4096 * g) × (g ≤ 16) }
-    ensures { take (16 * g) result ≡ slot16Of s.now q g }
+    ensures { take (16 * g) result ≡ slot16_of s.now q g }
 {
     let i = q >> 3;
     let o = q & 7;

@@ -10,17 +10,17 @@ use lib.Dec.{eqb, ltb}
 use lib.ListN.{length, take}
 use Rattle.base.specs.Choice.{if◌then◌else◌}
 use Rattle.base.specs.Answer.{accepted}
-use Rattle.base.proofs.AnswerLaws.{accepted-so}
-use Rattle.align.specs.Place.{number_of, placeOf, start_of}
+use Rattle.base.proofs.AnswerLaws.{accepted_so}
+use Rattle.align.specs.Place.{number_of, place_of, start_of}
 use Rattle.align.specs.declared.Found.{Found}
 use Rattle.align.specs.declared.Found.TheVariants.{At, BasicAt, Nothing}
 use Rattle.growth.specs.Small.{Small}
-use Rattle.chunk.specs.Taking.{lacksRoom, lacking, taking, over, Takes}
+use Rattle.chunk.specs.Taking.{lacks_room, lacking, taking, over, Takes}
 use Rattle.chunk.specs.declared.Took.{Took}
 use Rattle.read.specs.Entry as reads
 use Rattle.read.specs.declared.Reading.{Reading}
-use Rattle.stream.specs.Entry.{isLarge, isFar, is_over, octetsCame, grownOf, feedRefusal, feedAccept, feedRefuse, feeding, Feeds}
-use Rattle.stream.specs.Entry.{endRefusal, endAccept, endPlace, ending}
+use Rattle.stream.specs.Entry.{is_large, is_far, is_over, octets_came, grown_of, feed_refusal, feed_accept, feed_refuse, feeding, Feeds}
+use Rattle.stream.specs.Entry.{end_refusal, end_accept, end_place, ending}
 use Rattle.stream.specs.declared.Stream.{Stream}
 use Rattle.stream.specs.declared.Ended.{Ended}
 
@@ -33,10 +33,10 @@ pub record Sound (st : Stream) : Type 0 where
 either : (a b : Bool) → a || b ≡ false → (a ≡ false) × (b ≡ false)
 either a b e = (or-eq-false-eq-eq-false-and-eq-false a b).0 e
 
-near : (f : Found) → isFar f ≡ false → start_of f ≤ 1024 * 134217728
-unfolding isFar
+near : (f : Found) → is_far f ≡ false → start_of f ≤ 1024 * 134217728
+unfolding is_far
 near (At p k) e =
-    let h = either (isLarge p) (isLarge k) e in
+    let h = either (is_large p) (is_large k) e in
     omega (arith, ltb-false 134217728 p h.0, ltb-false 134217728 k h.1)
 near (BasicAt p) e = omega arith
 near Nothing e = omega arith
@@ -45,14 +45,14 @@ pub sound : (st : Stream) → is_over st ≡ false → Sound st
 unfolding is_over
 sound st e =
     let c = st.line in
-    let h₉ = either _ (isLarge c.wordbits) e in
-    let h₈ = either _ (isLarge c.farend) h₉.0 in
-    let h₇ = either _ (isLarge c.errored) h₈.0 in
-    let h₆ = either _ (isLarge c.words) h₇.0 in
-    let h₅ = either _ (isLarge c.lost) h₆.0 in
-    let h₄ = either _ (isLarge c.used) h₅.0 in
-    let h₃ = either _ (isLarge c.before) h₄.0 in
-    let h₂ = either _ (isFar c.found) h₃.0 in
+    let h₉ = either _ (is_large c.wordbits) e in
+    let h₈ = either _ (is_large c.farend) h₉.0 in
+    let h₇ = either _ (is_large c.errored) h₈.0 in
+    let h₆ = either _ (is_large c.words) h₇.0 in
+    let h₅ = either _ (is_large c.lost) h₆.0 in
+    let h₄ = either _ (is_large c.used) h₅.0 in
+    let h₃ = either _ (is_large c.before) h₄.0 in
+    let h₂ = either _ (is_far c.found) h₃.0 in
     let h₁ = either st.ended (ltb 2048 st.fill) h₂.0 in
     record {
       going = h₁.0;
@@ -73,53 +73,53 @@ sound st e =
 
 module _ (st : Stream) (w t payload slot0 : List ℕ) where
   abbrev number : ℕ
-  number = feedRefusal st w t (length payload) (length slot0)
+  number = feed_refusal st w t (length payload) (length slot0)
 
   abbrev lacks : Bool
-  lacks = lacksRoom (length payload) (length slot0) (grownOf st w t).multiframes
+  lacks = lacks_room (length payload) (length slot0) (grown_of st w t).multiframes
 
-  pub refused_as : (n : ℕ) → number ≡ suc n → Feeds st w t payload slot0 (feedRefuse st (suc n)) w payload slot0
+  pub refused_as : (n : ℕ) → number ≡ suc n → Feeds st w t payload slot0 (feed_refuse st (suc n)) w payload slot0
   unfolding feeding
   refused_as n e =
       record {
-        its-answer = sym (ap (λ k. accepted k (feedAccept (grownOf st w t)) (feedRefuse st k)) e);
-        its-window = refl;
-        its-payload = refl;
-        its-slot0 = refl;
+        its_answer = sym (ap (λ k. accepted k (feed_accept (grown_of st w t)) (feed_refuse st k)) e);
+        its_window = refl;
+        its_payload = refl;
+        its_slot0 = refl;
       }
 
   -- by the first that applies
-  pub with-21 : is_over st || not (eqb (length w) 2048) ≡ true → number ≡ 21
-  unfolding feedRefusal
-  with-21 e = rw e
+  pub with_21 : is_over st || not (eqb (length w) 2048) ≡ true → number ≡ 21
+  unfolding feed_refusal
+  with_21 e = rw e
 
   module _ (a : is_over st || not (eqb (length w) 2048) ≡ false) where
-    pub with-17 : ltb 16777216 (octetsCame st + length t) ≡ true → number ≡ 17
-    unfolding feedRefusal
-    with-17 e = rw (a, e)
+    pub with_17 : ltb 16777216 (octets_came st + length t) ≡ true → number ≡ 17
+    unfolding feed_refusal
+    with_17 e = rw (a, e)
 
-    module _ (b : ltb 16777216 (octetsCame st + length t) ≡ false) where
-      with-room : number ≡ (if lacks then 4 else 0)
-      unfolding feedRefusal
-      with-room = rw (a, b)
+    module _ (b : ltb 16777216 (octets_came st + length t) ≡ false) where
+      with_room : number ≡ (if lacks then 4 else 0)
+      unfolding feed_refusal
+      with_room = rw (a, b)
 
       -- what `take` answers, refused or taken
       module _ (r : Took) (w' payload' slot0' : List ℕ)
-          (h : Takes (grownOf st w t) st.line st.fill w payload slot0 r w' payload' slot0') where
-        told : (n : ℕ) → r.number ≡ n → (l : Bool) → lacks ≡ l → ◌≡◌ {A = Took} r (if l then lacking st.line st.fill else taking (grownOf st w t))
-        told n e l q = h.its-answer ∙ ap (λ b. if b then lacking st.line st.fill else taking (grownOf st w t)) q
+          (h : Takes (grown_of st w t) st.line st.fill w payload slot0 r w' payload' slot0') where
+        told : (n : ℕ) → r.number ≡ n → (l : Bool) → lacks ≡ l → ◌≡◌ {A = Took} r (if l then lacking st.line st.fill else taking (grown_of st w t))
+        told n e l q = h.its_answer ∙ ap (λ b. if b then lacking st.line st.fill else taking (grown_of st w t)) q
 
-        pub not_taken : (r.number ≡ 0 → ⊥) → Feeds st w t payload slot0 (feedRefuse st r.number) w' payload' slot0'
+        pub not_taken : (r.number ≡ 0 → ⊥) → Feeds st w t payload slot0 (feed_refuse st r.number) w' payload' slot0'
         not_taken z = go lacks refl
           where
-            go : (l : Bool) → lacks ≡ l → Feeds st w t payload slot0 (feedRefuse st r.number) w' payload' slot0'
+            go : (l : Bool) → lacks ≡ l → Feeds st w t payload slot0 (feed_refuse st r.number) w' payload' slot0'
             go false q = absurd (z (ap (λ (x : Took). x.number) (told r.number refl false q)))
             go true q =
                 let n : r.number ≡ 4 = ap (λ (x : Took). x.number) (told r.number refl true q) in
-                let v : w' ≡ w = h.its-window ∙ ap (λ k. accepted k (over (grownOf st w t).window w) w) n in
-                let p : payload' ≡ payload = h.its-payload ∙ ap (λ k. accepted k (over (grownOf st w t).payload payload) payload) n in
-                let o : slot0' ≡ slot0 = h.its-slot0 ∙ ap (λ k. accepted k (over (grownOf st w t).slot0 slot0) slot0) n in
-                rw (n, v, p, o) (refused_as 3 (with-room ∙ ap (λ b. if b then 4 else 0) q))
+                let v : w' ≡ w = h.its_window ∙ ap (λ k. accepted k (over (grown_of st w t).window w) w) n in
+                let p : payload' ≡ payload = h.its_payload ∙ ap (λ k. accepted k (over (grown_of st w t).payload payload) payload) n in
+                let o : slot0' ≡ slot0 = h.its_slot0 ∙ ap (λ k. accepted k (over (grown_of st w t).slot0 slot0) slot0) n in
+                rw (n, v, p, o) (refused_as 3 (with_room ∙ ap (λ b. if b then 4 else 0) q))
 
         pub taken : r.number ≡ 0
             → Feeds st w t payload slot0
@@ -137,47 +137,47 @@ module _ (st : Stream) (w t payload slot0 : List ℕ) where
                 absurd (omega arith)
             go false q =
                 let e = told r.number refl false q in
-                let n : number ≡ 0 = with-room ∙ ap (λ b. if b then 4 else 0) q in
+                let n : number ≡ 0 = with_room ∙ ap (λ b. if b then 4 else 0) q in
                 record {
-                  its-answer =
+                  its_answer =
                       ap (λ (x : Took). record {
                         stream = record { ended = false; fill = x.fill; line = x.line };
                         number = 0;
                         multiframes = x.multiframes;
                       }) e
-                      ∙ sym (ap (λ k. accepted k (feedAccept (grownOf st w t)) (feedRefuse st k)) n);
-                  its-window = h.its-window ∙ ap (λ k. accepted k (over (grownOf st w t).window w) w) z;
-                  its-payload = h.its-payload ∙ ap (λ k. accepted k (over (grownOf st w t).payload payload) payload) z;
-                  its-slot0 = h.its-slot0 ∙ ap (λ k. accepted k (over (grownOf st w t).slot0 slot0) slot0) z;
+                      ∙ sym (ap (λ k. accepted k (feed_accept (grown_of st w t)) (feed_refuse st k)) n);
+                  its_window = h.its_window ∙ ap (λ k. accepted k (over (grown_of st w t).window w) w) z;
+                  its_payload = h.its_payload ∙ ap (λ k. accepted k (over (grown_of st w t).payload payload) payload) z;
+                  its_slot0 = h.its_slot0 ∙ ap (λ k. accepted k (over (grown_of st w t).slot0 slot0) slot0) z;
                 }
 
 -- An end
 
 module _ (st : Stream) where
-  pub not-ended : (n : ℕ) → endRefusal st ≡ suc n → (p : ℕ) → p ≡ endPlace st (suc n)
+  pub not_ended : (n : ℕ) → end_refusal st ≡ suc n → (p : ℕ) → p ≡ end_place st (suc n)
       → ◌≡◌ {A = Ended} (record { stream = st; reading = reads.refuse (suc n) p }) (ending st)
   unfolding ending
-  not-ended n e p q =
+  not_ended n e p q =
       ap (λ x. record { stream = st; reading = reads.refuse (suc n) x }) q ∙ sym (ap ended_by e)
     where
       ended_by : ℕ → Ended
       ended_by k =
-          accepted k (record { stream = record { ended = true; fill = st.fill; line = st.line }; reading = endAccept st })
-          (record { stream = st; reading = reads.refuse k (endPlace st k) })
+          accepted k (record { stream = record { ended = true; fill = st.fill; line = st.line }; reading = end_accept st })
+          (record { stream = st; reading = reads.refuse k (end_place st k) })
 
-  pub ended-21 : is_over st ≡ true → endRefusal st ≡ 21
-  unfolding endRefusal
-  ended-21 e = rw e
+  pub ended_21 : is_over st ≡ true → end_refusal st ≡ 21
+  unfolding end_refusal
+  ended_21 e = rw e
 
   module _ (a : is_over st ≡ false) where
-    pub ended-1 : ltb (octetsCame st) 2048 ≡ true → endRefusal st ≡ 1
-    unfolding endRefusal
-    ended-1 e = rw (a, e)
+    pub ended_1 : ltb (octets_came st) 2048 ≡ true → end_refusal st ≡ 1
+    unfolding end_refusal
+    ended_1 e = rw (a, e)
 
     -- then the number is that of what was found
-    pub ended-by-found : ltb (octetsCame st) 2048 ≡ false → endRefusal st ≡ number_of st.line.found
-    unfolding endRefusal
-    ended-by-found e = rw (a, e) (go st.line.found)
+    pub ended_by_found : ltb (octets_came st) 2048 ≡ false → end_refusal st ≡ number_of st.line.found
+    unfolding end_refusal
+    ended_by_found e = rw (a, e) (go st.line.found)
       where
         go : (f : Found) → (if eqb (number_of f) 3 then 3 else if eqb (number_of f) 15 then 15 else 0) ≡ number_of f
         go (At p k) = refl
@@ -185,17 +185,17 @@ module _ (st : Stream) where
         go Nothing = refl
 
   -- the place that is found goes with 15, and with 3 it is 0
-  pub place-beside : (n : ℕ) → number_of st.line.found ≡ suc n → placeOf st.line.found ≡ endPlace st (suc n)
-  place-beside n e = go st.line.found e
+  pub place_beside : (n : ℕ) → number_of st.line.found ≡ suc n → place_of st.line.found ≡ end_place st (suc n)
+  place_beside n e = go st.line.found e
     where
-      go : (f : Found) → number_of f ≡ suc n → placeOf f ≡ (if eqb (suc n) 15 then placeOf f else 0)
+      go : (f : Found) → number_of f ≡ suc n → place_of f ≡ (if eqb (suc n) 15 then place_of f else 0)
       go (At p k) e = absurd (omega arith)
       go (BasicAt p) e = rw (sym e)
       go Nothing e = rw (sym e)
 
-  pub ended_so : endRefusal st ≡ 0 → (r : Reading) → r ≡ endAccept st
+  pub ended_so : end_refusal st ≡ 0 → (r : Reading) → r ≡ end_accept st
       → ◌≡◌ {A = Ended} (record { stream = record { ended = true; fill = st.fill; line = st.line }; reading = r }) (ending st)
   unfolding ending
   ended_so e r q =
       ap (λ x. record { stream = record { ended = true; fill = st.fill; line = st.line }; reading = x }) q
-      ∙ sym (accepted-so (endRefusal st) _ _ e)
+      ∙ sym (accepted_so (end_refusal st) _ _ e)

@@ -1,13 +1,13 @@
 -- Runs: any calls on a stream in any order (KIT §5), and the line that they join.
 use Rattle.std.specs.Prelude.{ℕ, Bool, List, [], ◌∷◌, ◌++◌, eqb, ltb, length}
-use Rattle.base.specs.Answer.{accepted, Refusal, ◌when◌, first_of}
-use Rattle.align.specs.Place.{foundIn, number_of}
-use Rattle.measure.specs.Reading.{payloadOf, slot0Of}
-use Rattle.read.specs.Entry.{start_in, usedIn}
+use Rattle.base.specs.Answer.{accepted, Refusal, ◌when◌, first_number}
+use Rattle.align.specs.Place.{found_in, number_of}
+use Rattle.measure.specs.Reading.{payload_of, slot0_of}
+use Rattle.read.specs.Entry.{start_in, used_in}
 use Rattle.read.specs.Entry as reads
 use Rattle.read.specs.declared.Reading.{Reading}
 use Rattle.chunk.specs.Taking.{over}
-use Rattle.stream.specs.Entry.{starting, grownOf, feedRefusal, feedAccept, endRefusal, ending}
+use Rattle.stream.specs.Entry.{starting, grown_of, feed_refusal, feed_accept, end_refusal, ending}
 use Rattle.stream.specs.declared.Stream.{Stream}
 
 -- a chunk, with outputs of so many octets; an end
@@ -30,10 +30,10 @@ begun window = record { stream = starting; window = window; line = []; payload =
 -- what a call makes of a run: where it is refused, nothing
 unfoldable pub called : Run → Call → Run
 called r (chunk t a b) =
-    let x = grownOf r.stream r.window t in
-    accepted (feedRefusal r.stream r.window t a b)
+    let x = grown_of r.stream r.window t in
+    accepted (feed_refusal r.stream r.window t a b)
     (record {
-      stream = (feedAccept x).stream;
+      stream = (feed_accept x).stream;
       window = over x.window r.window;
       line = r.line ++ t;
       payload = r.payload ++ x.payload;
@@ -41,7 +41,7 @@ called r (chunk t a b) =
     })
     r
 called r end =
-    accepted (endRefusal r.stream)
+    accepted (end_refusal r.stream)
     (record {
       stream = (ending r.stream).stream;
       window = r.window;
@@ -57,21 +57,21 @@ run r (c ∷ cs) = run (called r c) cs
 
 -- What §5 says of a joined line, as though it were one image of any length: at its end, and of what leaves.
 
-abbrev pub lineRefusals : Bool → List ℕ → List Refusal
-lineRefusals ended s =
+abbrev pub line_refusals : Bool → List ℕ → List Refusal
+line_refusals ended s =
     21 when ended
     ∷ 1 when ltb (length s) 2048
-    ∷ 3 when eqb (number_of (foundIn s)) 3
-    ∷ 15 when eqb (number_of (foundIn s)) 15
+    ∷ 3 when eqb (number_of (found_in s)) 3
+    ∷ 15 when eqb (number_of (found_in s)) 15
     ∷ []
 
-unfoldable pub lineReading : Bool → List ℕ → Reading
-lineReading ended s =
-    let n = first_of (lineRefusals ended s) in
-    accepted n (reads.accept s) (reads.refuse n (reads.refusedPlace s n))
+unfoldable pub line_reading : Bool → List ℕ → Reading
+line_reading ended s =
+    let n = first_number (line_refusals ended s) in
+    accepted n (reads.accept s) (reads.refuse n (reads.refused_place s n))
 
-unfoldable pub linePayload : List ℕ → List ℕ
-linePayload s = accepted (number_of (foundIn s)) (payloadOf s (start_in s) (usedIn s)) []
+unfoldable pub line_payload : List ℕ → List ℕ
+line_payload s = accepted (number_of (found_in s)) (payload_of s (start_in s) (used_in s)) []
 
-unfoldable pub lineSlot0 : List ℕ → List ℕ
-lineSlot0 s = accepted (number_of (foundIn s)) (slot0Of s (start_in s) (usedIn s)) []
+unfoldable pub line_slot0 : List ℕ → List ℕ
+line_slot0 s = accepted (number_of (found_in s)) (slot0_of s (start_in s) (used_in s)) []

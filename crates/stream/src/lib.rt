@@ -1,9 +1,9 @@
 // A line that comes in chunks: a stream is started, fed and ended. What it is, beside its numbers, is the window, which
 // is lent.
 ghost use Rattle.std.specs.Prelude.{◌≡◌};
-ghost use Rattle.align.specs.Place.{number_of, placeOf};
+ghost use Rattle.align.specs.Place.{number_of, place_of};
 ghost use Rattle.read.specs.Entry as reads;
-ghost use Rattle.stream.specs.Entry.{starting, isFar, is_over, feedRefuse, Feeds, causeBy, ending};
+ghost use Rattle.stream.specs.Entry.{starting, is_far, is_over, feed_refuse, Feeds, cause_by, ending};
 
 use align::Found;
 use growth::Line;
@@ -34,7 +34,7 @@ pub struct Ended {
 
 // the place that was found, and its k
 fn is_far(found: Found) -> bool
-    ensures { result ≡ isFar found }
+    ensures { result ≡ is_far found }
 {
     match found {
         Found::At { place, k } => (134217728 < place) | (134217728 < k),
@@ -63,7 +63,7 @@ fn is_over(stream: Stream) -> bool
 
 // a chunk is refused
 fn refused(stream: Stream, number: u64) -> Fed
-    ensures { result ≡ feedRefuse stream number }
+    ensures { result ≡ feed_refuse stream number }
 {
     Fed {
         stream: stream,
@@ -144,7 +144,7 @@ pub fn feed(
 
 // the cause, by the frame of loss or 0
 fn cause_by(lost: usize) -> u64
-    ensures { result ≡ causeBy lost }
+    ensures { result ≡ cause_by lost }
 {
     if lost == 0 {
         return 0;
@@ -164,7 +164,7 @@ fn number_of(found: Found) -> u64
 }
 
 fn place_of(found: Found) -> usize
-    ensures { result ≡ placeOf found }
+    ensures { result ≡ place_of found }
 {
     match found {
         Found::At { place, k } => place,

@@ -3,8 +3,8 @@ use Rattle.std.specs.Prelude.{ℕ, ◌+◌, ◌-◌, ◌*◌, ◌/◌, ◌%◌, 
 use Rattle.line.specs.Bit.{bit_at}
 
 -- the data bit at place i of the line that a payload p makes: bit i % 193 - 1 of the 192 that its frame takes of p
-unfoldable pub dataBit : List ℕ → ℕ → ℕ
-dataBit p i = bit_at p (192 * (i / 193) + (i % 193 - 1))
+unfoldable pub data_bit : List ℕ → ℕ → ℕ
+data_bit p i = bit_at p (192 * (i / 193) + (i % 193 - 1))
 
 -- n: how many superframes a payload of 576n octets fills
 abbrev pub superframes : List ℕ → ℕ

@@ -7,7 +7,7 @@ use Rattle.base.specs.Tab.{tab}
 use Rattle.line.specs.Bit.{bit_at}
 use Rattle.line.specs.Spelt.{spelt}
 use Rattle.crc.specs.Remainder.{zeros, after}
-use Rattle.t1.specs.Superframe.{framingAt}
+use Rattle.t1.specs.Superframe.{framing_at}
 
 -- the remainder of the 4,632 bits from place p on, framing bits as they are
 unfoldable pub raw : List ℕ → ℕ → ℕ
@@ -18,13 +18,13 @@ unfoldable pub lacking : List ℕ → ℕ → ℕ
 lacking s p = after 6 0 (tab 4632 (λ i. if eqb (i % 193) 0 then 1 - bit_at s (p + i) else 0))
 
 -- what makes the first n framing bits from place p on 1, up to the last of them: a frame more is x^193, which is x^4
-unfoldable pub lackingBy : List ℕ → ℕ → ℕ → ℕ
-lackingBy s p zero = 0
-lackingBy s p (suc n) = bit_xor (after 6 (lackingBy s p n) (zeros 4)) (1 - bit_at s (p + 193 * n))
+unfoldable pub lacking_by : List ℕ → ℕ → ℕ → ℕ
+lacking_by s p zero = 0
+lacking_by s p (suc n) = bit_xor (after 6 (lacking_by s p n) (zeros 4)) (1 - bit_at s (p + 193 * n))
 
 -- the 24 framing bits of the superframe at q, as a number
-unfoldable pub framingOf : List ℕ → ℕ → ℕ
-framingOf s q = spelt 24 (λ f. bit_at s (framingAt q f))
+unfoldable pub framing_of : List ℕ → ℕ → ℕ
+framing_of s q = spelt 24 (λ f. bit_at s (framing_at q f))
 
 -- the six digits of r, four apart: r in x^4 for x, which is its fourth power, as the square of a sum is the sum of the
 -- squares here

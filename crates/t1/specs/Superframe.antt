@@ -9,28 +9,28 @@ use Rattle.crc.specs.Remainder.{check}
 use Rattle.crc.specs.Striped.{striped}
 
 -- the place of the framing bit of frame f
-abbrev pub framingAt : ℕ → ℕ → ℕ
-framingAt q f = q + 193 * f
+abbrev pub framing_at : ℕ → ℕ → ℕ
+framing_at q f = q + 193 * f
 
 -- the place of octet j of that frame
-abbrev pub octetPlace : ℕ → ℕ → ℕ → ℕ
-octetPlace q f j = framingAt q f + 1 + 8 * j
+abbrev pub octet_place : ℕ → ℕ → ℕ → ℕ
+octet_place q f j = framing_at q f + 1 + 8 * j
 
 -- it has the signal, in the framing bits of frames 3, 7, 11, 15, 19 and 23
 unfoldable pub framed : List ℕ → ℕ → Bool
-framed s q = all 6 (λ i. eqb (bit_at s (framingAt q (4 * i + 3))) (get_or signal i 0))
+framed s q = all 6 (λ i. eqb (bit_at s (framing_at q (4 * i + 3))) (get_or signal i 0))
 
 -- C1 to C6 as it carries them, in the framing bits of frames 1, 5, 9, 13, 17 and 21; C1 is the x^5 term
 unfoldable pub carried : List ℕ → ℕ → ℕ
-carried s q = spelt 6 (λ i. bit_at s (framingAt q (4 * i + 1)))
+carried s q = spelt 6 (λ i. bit_at s (framing_at q (4 * i + 1)))
 
 -- the check of a superframe whose bit i is f i: all its framing bits are read as 1
-unfoldable pub checkOf : (ℕ → ℕ) → ℕ
-checkOf f = check 6 (striped 4632 193 1 f)
+unfoldable pub check_of : (ℕ → ℕ) → ℕ
+check_of f = check 6 (striped 4632 193 1 f)
 
-abbrev pub superCheck : List ℕ → ℕ → ℕ
-superCheck s q = checkOf (λ i. bit_at s (q + i))
+abbrev pub super_check : List ℕ → ℕ → ℕ
+super_check s q = check_of (λ i. bit_at s (q + i))
 
 -- its check is the one that the next superframe carries
 unfoldable pub agrees : List ℕ → ℕ → Bool
-agrees s q = eqb (superCheck s q) (carried s (q + 4632))
+agrees s q = eqb (super_check s q) (carried s (q + 4632))

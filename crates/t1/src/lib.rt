@@ -2,14 +2,14 @@
 pub mod raw;
 
 ghost use Rattle.std.specs.Prelude.{◌≡◌, List, ℕ, ◌+◌, ◌*◌, ◌^◌, ◌<◌, ◌≤◌, length};
-ghost use Rattle.t1.specs.Superframe.{carried, superCheck};
+ghost use Rattle.t1.specs.Superframe.{carried, super_check};
 ghost use Rattle.t1.specs.Payload.{sized};
-ghost use Rattle.t1.specs.Raw.{raw, framingOf, fourth};
+ghost use Rattle.t1.specs.Raw.{raw, framing_of, fourth};
 
 // the framing bits of the superframe that begins at bit o of octet i, as a number, the first the highest
 pub fn framing(s: &[u8], i: usize, o: usize) -> u64
     requires { (8 * i + o + 4632 ≤ 8 * length s.now) × (o < 8) }
-    ensures { (result ≡ framingOf s.now (8 * i + o)) × (result < 2 ^ 24) }
+    ensures { (result ≡ framing_of s.now (8 * i + o)) × (result < 2 ^ 24) }
 {
     let mut bits = 0;
     for f in 0..24 {
@@ -20,7 +20,7 @@ pub fn framing(s: &[u8], i: usize, o: usize) -> u64
 
 // C1 to C6, from the framing bits of the superframe that carries them
 pub fn carried_by(framing: u64) -> u64
-    ensures { ((s : List ℕ) (q : ℕ) → framing ≡ framingOf s q → result ≡ carried s q) × (result < 64) }
+    ensures { ((s : List ℕ) (q : ℕ) → framing ≡ framing_of s q → result ≡ carried s q) × (result < 64) }
 {
     let mut c = 0;
     for i in 0..6 {
@@ -46,7 +46,7 @@ fn fourth(r: u64) -> u64
 // added, a frame counting for x^193, which is x^4, and the 192 bits behind the last for x^3
 pub fn check_by(at: u64, framing: u64) -> u64
     requires { (at < 64) × (framing < 2 ^ 24) }
-    ensures { ((s : List ℕ) (q : ℕ) → at ≡ raw s q → framing ≡ framingOf s q → result ≡ superCheck s q) × (result < 64) }
+    ensures { ((s : List ℕ) (q : ℕ) → at ≡ raw s q → framing ≡ framing_of s q → result ≡ super_check s q) × (result < 64) }
 {
     let lacking = fourth(crc::six::reduced(16777215 - framing));
     crc::six::after_zeros(crc::six::reduced(at ^ (8 * lacking)))

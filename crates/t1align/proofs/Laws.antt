@@ -11,19 +11,19 @@ use borrow.Author.Tests.{leb-true, le-leb, eqb-true, eq-eqb}
 use lib.Dec.{eqb}
 use lib.ListN.{length, get_or}
 use Rattle.base.proofs.ChoiceLaws.{denies}
-use Rattle.base.proofs.TabLaws.{all-at, at_all, least-some, least-none, none-least}
+use Rattle.base.proofs.TabLaws.{all_at, at_all, least_some, least_none, none_least}
 use Rattle.line.specs.Bit.{bit_at}
 use Rattle.line.specs.Signal.{signal}
-use Rattle.t1.specs.Superframe.{framingAt, framed, agrees}
-use Rattle.t1align.specs.Place.{standing, firstStanding, found, foundIn}
+use Rattle.t1.specs.Superframe.{framing_at, framed, agrees}
+use Rattle.t1align.specs.Place.{standing, first_standing, found, found_in}
 use Rattle.t1align.specs.Stands.{Framed, Stands, StandsFirst}
 use Rattle.t1align.specs.declared.Found.TheVariants.{At, Nothing}
 
-pub framed-holds : (s : List ℕ) (q : ℕ) → framed s q ≡ true ↔ Framed s q
+pub framed_holds : (s : List ℕ) (q : ℕ) → framed s q ≡ true ↔ Framed s q
 unfolding framed
-framed-holds s q =
-    let t : ℕ → Bool = λ i. eqb (bit_at s (framingAt q (4 * i + 3))) (get_or signal i 0) in
-    (λ e i h. eqb-true _ _ (all-at 6 t e i h), λ h. at_all 6 t (λ i l. eq-eqb _ _ (h i l)))
+framed_holds s q =
+    let t : ℕ → Bool = λ i. eqb (bit_at s (framing_at q (4 * i + 3))) (get_or signal i 0) in
+    (λ e i h. eqb-true _ _ (all_at 6 t e i h), λ h. at_all 6 t (λ i l. eq-eqb _ _ (h i l)))
 
 pub stands_here : (s : List ℕ) (p : ℕ) → standing s p ≡ true ↔ Stands s p
 unfolding standing agrees
@@ -36,8 +36,8 @@ stands_here s p = (there, back)
         let d = (and-eq-true_iff (framed s (p + 4632)) (agrees s p)).0 b.1 in
         record {
           room = leb-true _ _ a.0;
-          first = (framed-holds s p).0 b.0;
-          second = (framed-holds s (p + 4632)).0 d.0;
+          first = (framed_holds s p).0 b.0;
+          second = (framed_holds s (p + 4632)).0 d.0;
           agreement = eqb-true _ _ d.1;
         }
 
@@ -45,45 +45,45 @@ stands_here s p = (there, back)
     back h =
         rw (
           le-leb _ _ h.room,
-          (framed-holds s p).1 h.first,
-          (framed-holds s (p + 4632)).1 h.second,
+          (framed_holds s p).1 h.first,
+          (framed_holds s (p + 4632)).1 h.second,
           eq-eqb _ _ h.agreement,
         )
 
 module _ (s : List ℕ) where
   -- the place that is worked out is the first that stands
-  pub first-stands : (p : ℕ) → firstStanding s ≡ some p ↔ StandsFirst s p
-  unfolding firstStanding
-  first-stands p = (there, back)
+  pub first_stands : (p : ℕ) → first_standing s ≡ some p ↔ StandsFirst s p
+  unfolding first_standing
+  first_stands p = (there, back)
     where
-      there : firstStanding s ≡ some p → StandsFirst s p
+      there : first_standing s ≡ some p → StandsFirst s p
       there e =
-          let l = (least-some (8 * length s) (standing s) p).0 e in
+          let l = (least_some (8 * length s) (standing s) p).0 e in
           record { stands = (stands_here s p).0 l.passes; before = λ q h. denies (stands_here s q) (l.before q h) }
 
-      back : StandsFirst s p → firstStanding s ≡ some p
+      back : StandsFirst s p → first_standing s ≡ some p
       back h =
-          (least-some (8 * length s) (standing s) p).1 (record {
+          (least_some (8 * length s) (standing s) p).1 (record {
             below = omega (arith, h.stands.room);
             passes = (stands_here s p).1 h.stands;
             before = λ q l. eq-false_of_not-eq-true (λ e. h.before q l ((stands_here s q).0 e));
           })
 
   -- and there is none exactly if no place stands
-  pub none-stands : firstStanding s ≡ none ↔ ((p : ℕ) → Stands s p → ⊥)
-  unfolding firstStanding
-  none-stands = (
-    λ e p h. denies (stands_here s p) (least-none (8 * length s) (standing s) e p (omega (arith, h.room))) h,
-    λ h. none-least (8 * length s) (standing s) (λ p l. eq-false_of_not-eq-true (λ e. h p ((stands_here s p).0 e))),
+  pub none_stands : first_standing s ≡ none ↔ ((p : ℕ) → Stands s p → ⊥)
+  unfolding first_standing
+  none_stands = (
+    λ e p h. denies (stands_here s p) (least_none (8 * length s) (standing s) e p (omega (arith, h.room))) h,
+    λ h. none_least (8 * length s) (standing s) (λ p l. eq-false_of_not-eq-true (λ e. h p ((stands_here s p).0 e))),
   )
 
   -- so it is one place
-  pub stands-single : (p q : ℕ) → StandsFirst s p → StandsFirst s q → p ≡ q
-  stands-single p q h g = some-injective _ _ (sym ((first-stands p).1 h) ∙ (first-stands q).1 g)
+  pub stands_single : (p q : ℕ) → StandsFirst s p → StandsFirst s q → p ≡ q
+  stands_single p q h g = some-injective _ _ (sym ((first_stands p).1 h) ∙ (first_stands q).1 g)
 
   -- and the bits from it on are there
-  pub first-within : (p : ℕ) → firstStanding s ≡ some p → p + 9264 ≤ 8 * length s
-  first-within p e = ((first-stands p).0 e).stands.room
+  pub first_within : (p : ℕ) → first_standing s ≡ some p → p + 9264 ≤ 8 * length s
+  first_within p e = ((first_stands p).0 e).stands.room
 
 -- what the search answers, case by case
 pub found_at : (o : Option ℕ) (p : ℕ) → found o ≡ At p → o ≡ some p
@@ -95,8 +95,8 @@ found_nothing (some q) e = let z : ◌≡◌ {A = ℕ} 0 1 = cc in absurd (omega
 found_nothing none e = refl
 
 -- that is, the first place that stands, or nothing where none does
-pub finds-at : (s : List ℕ) (p : ℕ) → foundIn s ≡ At p ↔ StandsFirst s p
-finds-at s p = (λ e. (first-stands s p).0 (found_at (firstStanding s) p e), λ h. ap found ((first-stands s p).1 h))
+pub finds_at : (s : List ℕ) (p : ℕ) → found_in s ≡ At p ↔ StandsFirst s p
+finds_at s p = (λ e. (first_stands s p).0 (found_at (first_standing s) p e), λ h. ap found ((first_stands s p).1 h))
 
-pub finds-nothing : (s : List ℕ) → foundIn s ≡ Nothing ↔ ((p : ℕ) → Stands s p → ⊥)
-finds-nothing s = (λ e. (none-stands s).0 (found_nothing (firstStanding s) e), λ h. ap found ((none-stands s).1 h))
+pub finds_nothing : (s : List ℕ) → found_in s ≡ Nothing ↔ ((p : ℕ) → Stands s p → ⊥)
+finds_nothing s = (λ e. (none_stands s).0 (found_nothing (first_standing s) e), λ h. ap found ((none_stands s).1 h))

@@ -12,22 +12,22 @@ unfoldable pub standing : List ℕ → ℕ → Bool
 standing s p = leb (p + 9264) (8 * length s) && (framed s p && (framed s (p + 4632) && agrees s p))
 
 -- the first that does, counted from bit 0
-unfoldable pub firstStanding : List ℕ → Option ℕ
-firstStanding s = least (8 * length s) (standing s)
+unfoldable pub first_standing : List ℕ → Option ℕ
+first_standing s = least (8 * length s) (standing s)
 
 -- the same as the search answers it
 abbrev pub found : Option ℕ → Found
 found (some p) = At p
 found none = Nothing
 
-abbrev pub foundIn : List ℕ → Found
-foundIn s = found (firstStanding s)
+abbrev pub found_in : List ℕ → Found
+found_in s = found (first_standing s)
 
 -- for each case its number and its place
 abbrev pub number_of : Found → ℕ
 number_of (At p) = 0
 number_of Nothing = 3
 
-abbrev pub placeOf : Found → ℕ
-placeOf (At p) = p
-placeOf Nothing = 0
+abbrev pub place_of : Found → ℕ
+place_of (At p) = p
+place_of Nothing = 0

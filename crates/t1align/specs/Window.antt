@@ -2,13 +2,13 @@
 use Rattle.std.specs.Prelude.{ℕ, ◌+◌, ◌*◌, ◌%◌, ◌≤◌, ◌<◌, ◌≡◌, List, get_or}
 use Rattle.line.specs.Bit.{bit_at}
 use Rattle.line.specs.Signal.{signal}
-use Rattle.t1.specs.Superframe.{framingAt}
+use Rattle.t1.specs.Superframe.{framing_at}
 use Rattle.t1sliced.specs.Sliced.{Exactly}
 use Rattle.t1align.specs.Stands.{Framed}
 
 -- the superframe at place o has every second bit of the signal, from bit e on, e 0 or 1
 abbrev pub HalfFramed : ℕ → List ℕ → ℕ → Type 0
-HalfFramed e s o = (k : ℕ) → k < 3 → bit_at s (framingAt o (4 * (2 * k + e) + 3)) ≡ get_or signal (2 * k + e) 0
+HalfFramed e s o = (k : ℕ) → k < 3 → bit_at s (framing_at o (4 * (2 * k + e) + 3)) ≡ get_or signal (2 * k + e) 0
 
 -- that one and the next have these bits
 abbrev pub BothHalfFramed : ℕ → List ℕ → ℕ → Type 0

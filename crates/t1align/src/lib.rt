@@ -1,8 +1,8 @@
 // The search for the first place of a T1 image that stands, 56 places at once.
 ghost use Rattle.std.specs.Prelude.{◌≡◌, ◌+◌, ◌-◌, ◌*◌, ◌%◌, ◌^◌, ◌<◌, ◌≤◌, leb, length};
-ghost use Rattle.base.specs.Choice.{whenSo};
+ghost use Rattle.base.specs.Choice.{when_so};
 ghost use Rattle.line.specs.Bit.{Room};
-ghost use Rattle.t1align.specs.Place.{found, foundIn};
+ghost use Rattle.t1align.specs.Place.{found, found_in};
 ghost use Rattle.t1.specs.Raw.{raw};
 ghost use Rattle.t1sliced.specs.Sliced.{Exactly};
 ghost use Rattle.t1align.specs.Window.{HalfFramed, BothHalfFramed, BothFramed, FirstWindow};
@@ -108,7 +108,7 @@ fn raw_on(s: &[u8], j: usize, at: u64, i: usize) -> u64
 // the place that the search came to, if it has room
 fn placed(p: usize, bits: usize) -> Found
     requires { p < 2 ^ 63 }
-    ensures { result ≡ found (whenSo (leb (p + 9264) bits) p) }
+    ensures { result ≡ found (when_so (leb (p + 9264) bits) p) }
 {
     if bits < p + 9264 {
         return Found::Nothing;
@@ -119,7 +119,7 @@ fn placed(p: usize, bits: usize) -> Found
 // the first place that stands; checks are taken only in windows where both signals are
 pub fn find(s: &[u8]) -> Found
     requires { length s.now < 2 ^ 60 }
-    ensures { result ≡ foundIn s.now }
+    ensures { result ≡ found_in s.now }
 {
     let end = line::octets_with_room(s, 1158);
     if end == 0 {

@@ -5,21 +5,21 @@ use mathlib.Core.List.{List, ◌++◌}
 use mathlib.Core.Option.{some}
 use native.Mathlib.Omega.{arith}
 use lib.ListN.{length, drop}
-use Rattle.base.proofs.AnswerLaws.{accepted-so}
+use Rattle.base.proofs.AnswerLaws.{accepted_so}
 use Rattle.line.specs.Bit.{Room}
-use Rattle.t1align.specs.Place.{firstStanding}
-use Rattle.t1read.specs.Reading.{whole, payloadOf, link_of, compared, errored}
-use Rattle.t1read.specs.Entry.{GoodLength, place_in, wholeIn, refusal, accept, refuse, reading, Read}
+use Rattle.t1align.specs.Place.{first_standing}
+use Rattle.t1read.specs.Reading.{whole, payload_of, link_of, compared, errored}
+use Rattle.t1read.specs.Entry.{GoodLength, place_in, whole_in, refusal, accept, refuse, reading, Read}
 use Rattle.t1read.specs.declared.Reading.{Reading}
 use Rattle.t1read.proofs.EntryLaws.{place_is, whole_is}
 
 pub record Measured (s : List ℕ) (p m : ℕ) : Type 0 where
   pub at : p ≡ place_in s
-  pub of : m ≡ wholeIn s
+  pub of : m ≡ whole_in s
   pub two : 2 ≤ m
   pub room : Room s p (4632 * m)
 
-module _ (s : List ℕ) (good : GoodLength s) (p : ℕ) (e : firstStanding s ≡ some p) (m : ℕ)
+module _ (s : List ℕ) (good : GoodLength s) (p : ℕ) (e : first_standing s ≡ some p) (m : ℕ)
     (hm : m ≡ (8 * length s - p) / 4632) where
   pub measured : Measured s p m
   unfolding whole
@@ -36,7 +36,7 @@ module _ (s : List ℕ) (good : GoodLength s) (p : ℕ) (e : firstStanding s ≡
   pub answered : (payload link payload' link' : List ℕ) (n : ℕ)
       → refusal s (length payload) (length link) ≡ 0
       → n ≡ errored s p m
-      → payload' ≡ payloadOf s p m ++ drop (576 * m) payload
+      → payload' ≡ payload_of s p m ++ drop (576 * m) payload
       → link' ≡ link_of s p m ++ drop (12 * m) link
       → Read s payload link (record { number = 0; place = p; whole = m; compared = m - 1; errored = n }) payload' link'
   unfolding reading accept errored
@@ -53,7 +53,7 @@ module _ (s : List ℕ) (good : GoodLength s) (p : ℕ) (e : firstStanding s ≡
         errored = (h₁ ∙ ap₂ (errored s) d.at d.of) i;
       } in
       record {
-        its-answer = its ∙ sym (accepted-so (refusal s (length payload) (length link)) (accept s) (refuse _) z);
-        its-payload = h₂ ∙ ap₂ (λ x y. payloadOf s x y ++ drop (576 * y) payload) d.at d.of;
-        its-link = h₃ ∙ ap₂ (λ x y. link_of s x y ++ drop (12 * y) link) d.at d.of;
+        its_answer = its ∙ sym (accepted_so (refusal s (length payload) (length link)) (accept s) (refuse _) z);
+        its_payload = h₂ ∙ ap₂ (λ x y. payload_of s x y ++ drop (576 * y) payload) d.at d.of;
+        its_link = h₃ ∙ ap₂ (λ x y. link_of s x y ++ drop (12 * y) link) d.at d.of;
       }

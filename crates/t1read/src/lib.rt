@@ -1,14 +1,14 @@
 // Reading a T1 image from the first place that stands.
 ghost use Rattle.std.specs.Prelude.{◌≡◌, ◌++◌, ◌+◌, ◌*◌, ◌^◌, ◌<◌, ◌≤◌, length, drop};
 ghost use Rattle.std.proofs.Math.Option.{some};
-ghost use Rattle.line.specs.Bit.{Room, octetAt};
+ghost use Rattle.line.specs.Bit.{Room, octet_at};
 ghost use Rattle.base.specs.Tab.{tab};
 ghost use Rattle.line.specs.Spelt.{digit};
-ghost use Rattle.t1.specs.Superframe.{superCheck};
-ghost use Rattle.t1.specs.Raw.{framingOf};
-ghost use Rattle.t1align.specs.Place.{firstStanding};
-ghost use Rattle.t1read.specs.Reading.{payloadOf, link_of, errored};
-ghost use Rattle.t1read.specs.Filled.{filled, everyEighth};
+ghost use Rattle.t1.specs.Superframe.{super_check};
+ghost use Rattle.t1.specs.Raw.{framing_of};
+ghost use Rattle.t1align.specs.Place.{first_standing};
+ghost use Rattle.t1read.specs.Reading.{payload_of, link_of, errored};
+ghost use Rattle.t1read.specs.Filled.{filled, every_eighth};
 ghost use Rattle.t1read.specs.Entry.{Read, GoodLength, refuse};
 
 // What is read: the number is 0, or the refusal's with zeros beside it.
@@ -24,7 +24,7 @@ pub struct Reading {
 // the 24 octets from bit o of octet i on: two runs, which share eight
 fn put_frame(s: &[u8], i: usize, o: usize, out: &mut [u8])
     requires { (8 * i + o + 192 ≤ 8 * length s.now) × (o < 8) × (length out.old ≡ 24) }
-    ensures { out.new ≡ tab 24 (λ j. octetAt s.now (8 * i + o + 8 * j)) }
+    ensures { out.new ≡ tab 24 (λ j. octet_at s.now (8 * i + o + 8 * j)) }
 {
     for h in 0..2 {
         let a = 8 * h;
@@ -35,7 +35,7 @@ fn put_frame(s: &[u8], i: usize, o: usize, out: &mut [u8])
 // frames g, g + 8, g + 16 and so on of n superframes, which begin at one bit of their octets, 193 octets apart
 fn put_every_eighth(s: &[u8], q: usize, g: usize, n: usize, out: &mut [u8])
     requires { Room s.now q (4632 * n) × (576 * n ≤ length out.old) × (g < 8) }
-    ensures { out.new ≡ filled (everyEighth g (24 * n)) s.now q out.old }
+    ensures { out.new ≡ filled (every_eighth g (24 * n)) s.now q out.old }
 {
     let p = q + 193 * g + 1;
     let i = p >> 3;
@@ -49,7 +49,7 @@ fn put_every_eighth(s: &[u8], q: usize, g: usize, n: usize, out: &mut [u8])
 // the payload of n superframes, each frame to its part of the output
 fn payload_of(s: &[u8], q: usize, n: usize, out: &mut [u8])
     requires { Room s.now q (4632 * n) × (576 * n ≤ length out.old) }
-    ensures { out.new ≡ payloadOf s.now q n ++ drop (576 * n) out.old }
+    ensures { out.new ≡ payload_of s.now q n ++ drop (576 * n) out.old }
 {
     for g in 0..8 {
         put_every_eighth(s, q, g, n, out);
@@ -69,8 +69,8 @@ fn put_link(framing: u64, out: &mut [u8])
 
 // the check of the superframe at bit o of octet i, whose framing bits are known
 fn check_at(s: &[u8], i: usize, o: usize, framing: u64) -> u64
-    requires { (i + 587 ≤ length s.now) × (o < 8) × (framing ≡ framingOf s.now (8 * i + o)) × (framing < 2 ^ 24) }
-    ensures { result ≡ superCheck s.now (8 * i + o) }
+    requires { (i + 587 ≤ length s.now) × (o < 8) × (framing ≡ framing_of s.now (8 * i + o)) × (framing < 2 ^ 24) }
+    ensures { result ≡ super_check s.now (8 * i + o) }
 {
     let raw = t1::raw::of(&s[i..i + 579]);
     t1::check_by(t1::raw::slid(s, i, o, raw), framing)
@@ -114,7 +114,7 @@ fn refused(number: u64) -> Reading
 
 // from the first place that stands
 fn read_from(image: &[u8], place: usize, payload: &mut [u8], link: &mut [u8]) -> Reading
-    requires { GoodLength image.now × (firstStanding image.now ≡ some place) }
+    requires { GoodLength image.now × (first_standing image.now ≡ some place) }
     ensures { Read image.now payload.old link.old
         result payload.new link.new }
 {

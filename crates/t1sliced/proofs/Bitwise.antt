@@ -10,47 +10,47 @@ use lib.Dec.{eqb, lit<, lit≤}
 use lib.Pow.{pow_mono, pow-add, shl-shr}
 use Rattle.base.specs.Choice.{if◌then◌else◌}
 use Rattle.line.specs.Window.{bit_of}
-use Rattle.line.proofs.WindowLaws.{shifted-bit, low_bit}
+use Rattle.line.proofs.WindowLaws.{shifted_bit, low_bit}
 
-pub xor-bits : (x y n : ℕ) → bit_of (bit_xor x y) n ≡ bit_xor (bit_of x n) (bit_of y n)
-xor-bits x y n = ap (λ z. z % 2) (xor_shr x y n) ∙ xor_mod (x / 2 ^ n) (y / 2 ^ n) 1
+pub xor_bits : (x y n : ℕ) → bit_of (bit_xor x y) n ≡ bit_xor (bit_of x n) (bit_of y n)
+xor_bits x y n = ap (λ z. z % 2) (xor_shr x y n) ∙ xor_mod (x / 2 ^ n) (y / 2 ^ n) 1
 
-pub or-bits : (x y n : ℕ) → bit_of (bit_or x y) n ≡ bit_or (bit_of x n) (bit_of y n)
-or-bits x y n = ap (λ z. z % 2) (or_shr x y n) ∙ or_mod (x / 2 ^ n) (y / 2 ^ n) 1
+pub or_bits : (x y n : ℕ) → bit_of (bit_or x y) n ≡ bit_or (bit_of x n) (bit_of y n)
+or_bits x y n = ap (λ z. z % 2) (or_shr x y n) ∙ or_mod (x / 2 ^ n) (y / 2 ^ n) 1
 
-pub or-none : (x y : ℕ) → bit_or x y ≡ 0 → (x ≡ 0) × (y ≡ 0)
-or-none x y e =
+pub or_none : (x y : ℕ) → bit_or x y ≡ 0 → (x ≡ 0) × (y ≡ 0)
+or_none x y e =
     let s = or_add_and x y in
     let l = and_le_l x y in
     let r = and_le_r x y in
     (omega arith, omega arith)
 
 -- `!x` of m bits: all of them 1, less x
-pub not-bit : (x n m : ℕ) → x < 2 ^ m → n < m → bit_of (2 ^ m - 1 - x) n ≡ 1 - bit_of x n
-not-bit x n zero h g = absurd (omega arith)
-not-bit x zero (suc m) h g =
+pub not_bit : (x n m : ℕ) → x < 2 ^ m → n < m → bit_of (2 ^ m - 1 - x) n ≡ 1 - bit_of x n
+not_bit x n zero h g = absurd (omega arith)
+not_bit x zero (suc m) h g =
     let l : x < 2 ^ m * 2 = rw pow-suc at h in
     rw (pow-suc 2 m, div-one) (omega (arith, div-one x))
-not-bit x (suc n) (suc m) h g =
+not_bit x (suc n) (suc m) h g =
     let l : x < 2 ^ m * 2 = rw pow-suc at h in
     let y : ℕ = 2 ^ suc m - 1 - x in
     let half : y / 2 ≡ 2 ^ m - 1 - x / 2 = rw (pow-suc 2 m) (omega arith) in
-    ap (bit_of y) (sym (add-one n)) ∙ sym (shifted-bit y n 1) ∙ ap (λ z. bit_of z n) half
-    ∙ not-bit (x / 2) n m (omega arith) (omega arith)
-    ∙ ap (λ b. 1 - b) (shifted-bit x n 1 ∙ ap (bit_of x) (add-one n))
+    ap (bit_of y) (sym (add-one n)) ∙ sym (shifted_bit y n 1) ∙ ap (λ z. bit_of z n) half
+    ∙ not_bit (x / 2) n m (omega arith) (omega arith)
+    ∙ ap (λ b. 1 - b) (shifted_bit x n 1 ∙ ap (bit_of x) (add-one n))
 
 -- a number of m bits has none from m on
-pub no-bit : (x m n : ℕ) → x < 2 ^ m → m ≤ n → bit_of x n ≡ 0
-no-bit x m n h l =
+pub no_bit : (x m n : ℕ) → x < 2 ^ m → m ≤ n → bit_of x n ≡ 0
+no_bit x m n h l =
     let lt : x < 2 ^ n = omega (arith, pow_mono {i = m} {j = n} l) in ap (λ z. z % 2) (div-eq_of_lt lt)
 
 -- `x << k` of 64 bits: those above, and those that come in
-pub shl-bit : (x k n : ℕ) → k ≤ n → n < 64 → bit_of (x * 2 ^ k % 2 ^ 64) n ≡ bit_of x (n - k)
-shl-bit x k n h l =
+pub shl_bit : (x k n : ℕ) → k ≤ n → n < 64 → bit_of (x * 2 ^ k % 2 ^ 64) n ≡ bit_of x (n - k)
+shl_bit x k n h l =
     let e : 63 - n + 1 + n ≡ 64 = omega arith in
     let f : n - k + k ≡ n = omega arith in
     ap (λ j. bit_of (x * 2 ^ k % 2 ^ j) n) (sym e) ∙ sym (low_bit (x * 2 ^ k) (63 - n) n) ∙ ap (bit_of (x * 2 ^ k)) (sym f)
-    ∙ sym (shifted-bit (x * 2 ^ k) (n - k) k) ∙ ap (λ y. bit_of y (n - k)) (shl-shr x k)
+    ∙ sym (shifted_bit (x * 2 ^ k) (n - k) k) ∙ ap (λ y. bit_of y (n - k)) (shl-shr x k)
 
 pub shl_none : (x k n : ℕ) → n < k → n < 64 → bit_of (x * 2 ^ k % 2 ^ 64) n ≡ 0
 shl_none x k n h l =
@@ -66,6 +66,6 @@ shl_none x k n h l =
 
 -- a bit as the highest
 pub top_bit : (b o : ℕ) → b < 2 → o < 56 → bit_of (b * 2 ^ 63 % 2 ^ 64) (63 - o) ≡ (if eqb o 0 then b else 0)
-top_bit b zero h l = shl-bit b 63 63 (lit≤ tt) (lit< tt) ∙ rw (div-one b) (omega arith)
+top_bit b zero h l = shl_bit b 63 63 (lit≤ tt) (lit< tt) ∙ rw (div-one b) (omega arith)
 top_bit b (suc o) h l =
     rw (ne_eqb (suc o) 0 (λ e. omega arith)) (shl_none b 63 (63 - suc o) (omega arith) (omega arith))

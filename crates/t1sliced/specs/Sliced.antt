@@ -7,8 +7,8 @@ use Rattle.base.specs.Choice.{if◌then◌else◌}
 use Rattle.line.specs.Bit.{bit_at}
 use Rattle.line.specs.Window.{bit_of, One}
 use Rattle.crc.specs.Remainder.{zeros, after}
-use Rattle.t1.specs.Superframe.{superCheck, carried}
-use Rattle.t1.specs.Raw.{raw, lackingBy}
+use Rattle.t1.specs.Superframe.{super_check, carried}
+use Rattle.t1.specs.Raw.{raw, lacking_by}
 
 -- r has the places with P, and no others
 abbrev pub Exactly : (ℕ → Type 0) → ℕ → Type 0
@@ -16,7 +16,7 @@ Exactly P r = (o : ℕ) → o < 56 → (One r (63 - o) ↔ P o)
 
 -- the superframe at o agrees
 abbrev pub AgreesAt : List ℕ → ℕ → Type 0
-AgreesAt s o = superCheck s o ≡ carried s (o + 4632)
+AgreesAt s o = super_check s o ≡ carried s (o + 4632)
 
 -- Remainders f 0, f 1, .. of the places, sliced: six words, of which word t has the coefficients of x^t
 abbrev pub Sliced : (ℕ → ℕ) → List ℕ → Type 0
@@ -65,4 +65,4 @@ WithFrame bits a r =
 -- r has eight more, the first of which begins with octet i
 abbrev pub WithEight : List ℕ → ℕ → List ℕ → List ℕ → Type 0
 WithEight s i a r =
-    (n : ℕ) → 193 * n ≡ 8 * i → Sliced (λ o. lackingBy s o n) a → Sliced (λ o. lackingBy s o (n + 8)) r
+    (n : ℕ) → 193 * n ≡ 8 * i → Sliced (λ o. lacking_by s o n) a → Sliced (λ o. lacking_by s o (n + 8)) r

@@ -2,7 +2,7 @@
 use Rattle.std.specs.Prelude.{ℕ, ◌*◌, ◌/◌, ◌%◌, ◌<◌, List, ◌≡◌, eqb, length, get_or}
 use Rattle.base.specs.Choice.{if◌then◌else◌}
 use Rattle.line.specs.Spelt.{digit}
-use Rattle.t1.specs.Payload.{dataBit}
+use Rattle.t1.specs.Payload.{data_bit}
 
 -- n octets of 0 or 1
 pub record OfBits (l : List ℕ) (n : ℕ) : Type 0 where
@@ -13,8 +13,8 @@ pub record OfBits (l : List ℕ) (n : ℕ) : Type 0 where
 pub record Inputs (p l : List ℕ) (c n : ℕ) : Type 0 where
   pub payload : length p ≡ 576 * n
   pub link : OfBits l (12 * n)
-  pub six-bits : c < 64
+  pub six_bits : c < 64
 
 -- bit i of eight frames with the octets o and, as a number, the framing bits b
-unfoldable pub framesBit : List ℕ → ℕ → ℕ → ℕ
-framesBit o b i = if eqb (i % 193) 0 then digit 8 b (i / 193) else dataBit o i
+unfoldable pub frames_bit : List ℕ → ℕ → ℕ → ℕ
+frames_bit o b i = if eqb (i % 193) 0 then digit 8 b (i / 193) else data_bit o i

@@ -1,10 +1,10 @@
 // Writing superframes of a T1 line.
 ghost use Rattle.std.specs.Prelude.{◌≡◌, ◌++◌, ◌+◌, ◌-◌, ◌*◌, ◌/◌, ◌%◌, ◌^◌, ◌<◌, ◌≤◌, length, drop};
-ghost use Rattle.base.specs.Answer.{first_of};
+ghost use Rattle.base.specs.Answer.{first_number};
 ghost use Rattle.line.specs.Spelt.{packed, spelt};
-ghost use Rattle.t1write.specs.Writing.{framingBit, carries, written, withSignals};
-ghost use Rattle.t1write.specs.Entry.{areBits, faults, Wrote, WroteSignalled};
-ghost use Rattle.t1write.specs.Inputs.{OfBits, Inputs, framesBit};
+ghost use Rattle.t1write.specs.Writing.{framing_bit, carries, written, with_signals};
+ghost use Rattle.t1write.specs.Entry.{are_bits, faults, Wrote, WroteSignalled};
+ghost use Rattle.t1write.specs.Inputs.{OfBits, Inputs, frames_bit};
 
 // what an entry answers: the number, 0 where the call is accepted, and the check of the last superframe
 #[derive(Drop)]
@@ -19,7 +19,7 @@ const SIGNAL: u64 = 0b001011;
 // the framing bits of a superframe that carries the check k, as a number, the first the highest
 fn framing_of(link: &[u8], k: u64) -> u64
     requires { OfBits link.now 12 }
-    ensures { (result ≡ spelt 24 (framingBit link.now k)) × (result < 2 ^ 24) }
+    ensures { (result ≡ spelt 24 (framing_bit link.now k)) × (result < 2 ^ 24) }
 {
     let mut bits = 0;
     for j in 0..6 {
@@ -43,7 +43,7 @@ fn joined(high: u64, low: u64, g: usize) -> u64
 // eight frames with these octets and, as a number, these framing bits: 193 octets, of which frame g begins at bit g of octet 24g
 fn write_eight(octets: &[u8], framing: u64, out: &mut [u8])
     requires { (length octets.now ≡ 192) × (length out.old ≡ 193) }
-    ensures { out.new ≡ packed 193 (framesBit octets.now framing) }
+    ensures { out.new ≡ packed 193 (frames_bit octets.now framing) }
 {
     let mut before = 0;
     for g in 0..8 {
@@ -106,7 +106,7 @@ fn write_all(payload: &[u8], link: &[u8], check: u64, n: usize, out: &mut [u8]) 
 // the octets of a superframe with their signalling, by value
 fn replaced(payload: &[u8], signalling: &[u8]) -> [u8; 576]
     requires { (length payload.now ≡ 576) × OfBits signalling.now 96 }
-    ensures { result ≡ withSignals payload.now signalling.now }
+    ensures { result ≡ with_signals payload.now signalling.now }
 {
     let mut octets = [0; 576];
     for i in 0..576 {
@@ -134,9 +134,9 @@ fn write_replaced(
         × OfBits signalling.now (96 * n)
         × (579 * n ≤ length out.old) }
     ensures out_after { out.new
-        ≡ written (withSignals payload.now signalling.now) link.now check n
+        ≡ written (with_signals payload.now signalling.now) link.now check n
         ++ drop (579 * n) out.old }
-    ensures value { result ≡ carries (withSignals payload.now signalling.now) check n }
+    ensures value { result ≡ carries (with_signals payload.now signalling.now) check n }
 {
     let mut k = check;
     for m in 0..n {
@@ -152,7 +152,7 @@ fn write_replaced(
 
 // n octets of 0 or 1
 fn are_bits(octets: &[u8], n: usize) -> bool
-    ensures { result ≡ areBits octets.now n }
+    ensures { result ≡ are_bits octets.now n }
 {
     if octets.len() != n {
         return false;
@@ -166,7 +166,7 @@ fn are_bits(octets: &[u8], n: usize) -> bool
 
 // what is wrong with what a call is given, by its number
 fn fault(payload: &[u8], link: &[u8], check: u64) -> u64
-    ensures { result ≡ first_of (faults payload.now link.now check) }
+    ensures { result ≡ first_number (faults payload.now link.now check) }
 {
     if !t1::is_sized(payload.len()) {
         return 5;

@@ -1,10 +1,10 @@
 -- For private functions alone. What an accepted call is given.
 use Rattle.std.specs.Prelude.{ℕ, ◌*◌, ◌<◌, List, ◌≡◌, length, get_or}
-use Rattle.write.specs.Entry.{overheadLimit}
+use Rattle.write.specs.Entry.{overhead_limit}
 
 -- the payload p and the overhead o of n multiframes, no bit of the overhead set that must be 0, and a check c
 pub record Inputs (p o : List ℕ) (c n : ℕ) : Type 0 where
-  pub payload-length : length p ≡ 496 * n
-  pub overhead-length : length o ≡ 8 * n
-  pub limited : (h : ℕ) → get_or o h 0 < overheadLimit h
-  pub four-bits : c < 16
+  pub payload_length : length p ≡ 496 * n
+  pub overhead_length : length o ≡ 8 * n
+  pub limited : (h : ℕ) → get_or o h 0 < overhead_limit h
+  pub four_bits : c < 16

@@ -4,8 +4,8 @@ ghost use Rattle.base.specs.Tab.{tab};
 ghost use Rattle.crc.specs.Fold.{remainders};
 ghost use Rattle.e1.specs.Block.{block_check};
 ghost use Rattle.write.specs.Writing.{bit1, slot0, block, carries, written};
-ghost use Rattle.base.specs.Answer.{first_of};
-ghost use Rattle.write.specs.Entry.{overheadLimit, overheadFits, faults, refusal, Wrote};
+ghost use Rattle.base.specs.Answer.{first_number};
+ghost use Rattle.write.specs.Entry.{overhead_limit, overhead_fits, faults, refusal, Wrote};
 ghost use Rattle.write.specs.Inputs.{Inputs};
 
 // what `write` answers: the number, 0 where the call is accepted, and the check of the last block
@@ -130,7 +130,7 @@ fn write_all(payload: &[u8], overhead: &[u8], k: u8, n: usize, out: &mut [u8]) -
 
 // what the overhead octet of the odd frame 2h + 1 stays below
 fn overhead_limit(h: usize) -> u8
-    ensures { result ≡ overheadLimit h }
+    ensures { result ≡ overhead_limit h }
 {
     if h % 8 < 6 {
         return 64;
@@ -141,7 +141,7 @@ fn overhead_limit(h: usize) -> u8
 // 8n octets, and in none a bit that must be 0
 fn overhead_fits(overhead: &[u8], n: usize) -> bool
     requires { n < 2 ^ 60 }
-    ensures { result ≡ overheadFits overhead.now n }
+    ensures { result ≡ overhead_fits overhead.now n }
 {
     if overhead.len() != 8 * n {
         return false;
@@ -156,7 +156,7 @@ fn overhead_fits(overhead: &[u8], n: usize) -> bool
 
 // what is wrong with what a call is given, by its number
 pub fn fault(payload: &[u8], overhead: &[u8], check: u64) -> u64
-    ensures { result ≡ first_of (faults payload.now overhead.now check) }
+    ensures { result ≡ first_number (faults payload.now overhead.now check) }
 {
     if !e1::is_sized(payload.len()) {
         return 5;

@@ -13,17 +13,17 @@ returns c =
     let w = b.before.before in
     rw (sym w.is_IsWord.ensures ∙ b.before.if1.true, eq-eqb _ _ (sym b.bit.ensures.0 ∙ c.before.if2.true)) c.is-word2.ensures
 
-returns-2 : tie.Need-returns-2
+returns_2 : tie.Need-returns-2
 unfolding basic
-returns-2 c =
+returns_2 c =
     let b = c.before in
     let w = b.before.before in
     rw (sym w.is_IsWord.ensures ∙ b.before.if1.true, ← b.bit.ensures.0, ne_eqb _ _ c.if2.false)
 
-returns-3 : tie.Need-returns-3
+returns_3 : tie.Need-returns-3
 unfolding basic
-returns-3 c = rw (sym c.before.is_IsWord.ensures ∙ c.if1.false) c.if1.false
+returns_3 c = rw (sym c.before.is_IsWord.ensures ∙ c.if1.false) c.if1.false
 
-pub basic-spec : {M : Type 1} → statement M
-basic-spec =
-    tie.close (tie.spec (search rules) (search rules) (search rules) (search rules) (search rules) returns returns-2 returns-3)
+pub basic_spec : {M : Type 1} → statement M
+basic_spec =
+    tie.close (tie.spec (search rules) (search rules) (search rules) (search rules) (search rules) returns returns_2 returns_3)

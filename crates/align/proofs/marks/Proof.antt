@@ -7,31 +7,31 @@ use lib.ListN.{length, length-set}
 use Rattle.line.specs.Bit.{field}
 use Rattle.line.specs.Window.{turned}
 use Rattle.align.specs.Window.{Marks}
-use Rattle.align.proofs.Rows.{put-more}
+use Rattle.align.proofs.Rows.{put_more}
 use Rattle.align.proofs.marks.Statement.{statement}
 use Rattle.align.proofs.marks.Tie as tie
 
-abbrev invariant-loop : tie.invariant-loop
-invariant-loop s i m₀ k₀ m k = (k ≤ 32) × (length m ≡ 32) × Marks s i k m
+abbrev invariant_loop : tie.invariant_loop
+invariant_loop s i m₀ k₀ m k = (k ≤ 32) × (length m ≡ 32) × Marks s i k m
 
-abbrev decreases-loop : tie.decreases-loop
-decreases-loop s i m₀ k₀ m k = 32 - k
+abbrev decreases_loop : tie.decreases_loop
+decreases_loop s i m₀ k₀ m k = 32 - k
 
-loop-again : tie.Need-loop-preserved invariant-loop decreases-loop
-loop-again c =
+loop_again : tie.Need-loop-preserved invariant_loop decreases_loop
+loop_again c =
     let l = c.before.before in
     let a = l.before.before.args in
     let m = l.loop.m in
     let k = l.loop.k in (
       omega arith,
       length-set m k _ ∙ l.loop.invariant.1,
-      put-more (λ j x. turned 8 x ≡ field a.s.now (8 * (a.i + 32 + 64 * j)) 64) m k _ (omega arith) l.loop.invariant.2 c.eight-octets.ensures,
+      put_more (λ j x. turned 8 x ≡ field a.s.now (8 * (a.i + 32 + 64 * j)) 64) m k _ (omega arith) l.loop.invariant.2 c.eight-octets.ensures,
     )
 
-pub marks-spec : {M : Type 1} → statement M
-marks-spec =
+pub marks_spec : {M : Type 1} → statement M
+marks_spec =
     tie.close
-    (tie.spec invariant-loop decreases-loop
+    (tie.spec invariant_loop decreases_loop
     (λ c. (omega arith, refl, λ k h. absurd (omega arith)))
     (omega arith)
     (omega arith)
@@ -41,5 +41,5 @@ marks-spec =
     (omega arith)
     (omega arith)
     (omega arith)
-    loop-again
+    loop_again
     (λ c k h. c.before.loop.invariant.2 k (omega arith)))

@@ -8,69 +8,69 @@ use lib.Count.{count_leading_zeros, leading_le}
 use lib.ListN.{length}
 use Rattle.align.specs.Stands.{Basic}
 use Rattle.align.specs.Window.{NoneFrom, Wanted}
-use Rattle.align.proofs.Laws.{wanted-basic}
-use Rattle.align.proofs.Sets.{none-to}
+use Rattle.align.proofs.Laws.{wanted_basic}
+use Rattle.align.proofs.Sets.{none_to}
 use Rattle.align.proofs.onward.Statement.{statement}
 use Rattle.align.proofs.onward.Tie as tie
 
-abbrev invariant-loop : tie.invariant-loop
-invariant-loop s p end known i₀ i = (p ≤ 8 * i) × (i ≤ length s) × NoneFrom (Wanted s known) p (8 * i)
+abbrev invariant_loop : tie.invariant_loop
+invariant_loop s p end known i₀ i = (p ≤ 8 * i) × (i ≤ length s) × NoneFrom (Wanted s known) p (8 * i)
 
-abbrev decreases-loop : tie.decreases-loop
-decreases-loop s p end known i₀ i = end - i
+abbrev decreases_loop : tie.decreases_loop
+decreases_loop s p end known i₀ i = end - i
 
 -- nor is one without basic alignment
-still-none : (s : List ℕ) (known : Bool) (p a b : ℕ) → NoneFrom (Wanted s known) p a → NoneFrom (Basic s) a b
+still_none : (s : List ℕ) (known : Bool) (p a b : ℕ) → NoneFrom (Wanted s known) p a → NoneFrom (Basic s) a b
     → NoneFrom (Wanted s known) p b
-still-none s known p a b before after q g l w =
-    elim (dec_lt q a) [ yes h ↦ before q g h w | no h ↦ after q (omega arith) l (wanted-basic s known q w) ]
+still_none s known p a b before after q g l w =
+    elim (dec_lt q a) [ yes h ↦ before q g h w | no h ↦ after q (omega arith) l (wanted_basic s known q w) ]
 
 -- nor one before the window that is hit
-none-to-hit : (c : tie.After-next-hit invariant-loop decreases-loop)
+none_to_hit : (c : tie.After-next-hit invariant_loop decreases_loop)
     → (let a = c.before.before.before.before.args in
     NoneFrom (Wanted a.s.now a.known) a.p (8 * c.next-hit.result.octet))
-none-to-hit c =
+none_to_hit c =
     let a = c.before.before.before.before.args in
-    still-none a.s.now a.known a.p (8 * c.before.loop.i) (8 * c.next-hit.result.octet) c.before.loop.invariant.2
+    still_none a.s.now a.known a.p (8 * c.before.loop.i) (8 * c.next-hit.result.octet) c.before.loop.invariant.2
     c.next-hit.ensures.2
 
-returns-2 : tie.Need-returns-2 invariant-loop decreases-loop
-returns-2 c = (omega arith, omega arith, none-to-hit c.before)
+returns_2 : tie.Need-returns-2 invariant_loop decreases_loop
+returns_2 c = (omega arith, omega arith, none_to_hit c.before)
 
 -- nor one before the first bit of the window that is 1
-none-in-window : (c : tie.After-wanted invariant-loop decreases-loop) (o : ℕ) → o ≤ 56 → o ≤ count_leading_zeros 64 c.wanted.result
+none_in_window : (c : tie.After-wanted invariant_loop decreases_loop) (o : ℕ) → o ≤ 56 → o ≤ count_leading_zeros 64 c.wanted.result
     → (let h = c.before.before in
     let a = h.before.before.before.before.args in
     NoneFrom (Wanted a.s.now a.known) a.p (8 * h.next-hit.result.octet + o))
-none-in-window c =
+none_in_window c =
     let h = c.before.before in
     let a = h.before.before.before.before.args in
-    none-to (Wanted a.s.now a.known) a.p h.next-hit.result.octet c.wanted.result c.wanted.ensures
+    none_to (Wanted a.s.now a.known) a.p h.next-hit.result.octet c.wanted.result c.wanted.ensures
     (omega arith)
-    (none-to-hit h)
+    (none_to_hit h)
 
-returns-3 : tie.Need-returns-3 invariant-loop decreases-loop
-returns-3 c =
-    (omega arith, omega arith, none-in-window c.before (count_leading_zeros 64 c.before.wanted.result) (omega arith) (omega arith))
+returns_3 : tie.Need-returns-3 invariant_loop decreases_loop
+returns_3 c =
+    (omega arith, omega arith, none_in_window c.before (count_leading_zeros 64 c.before.wanted.result) (omega arith) (omega arith))
 
-loop-again : tie.Need-loop-preserved invariant-loop decreases-loop
-loop-again c =
-    (omega arith, omega arith, λ q g l. none-in-window c.before 56 (omega arith) (omega arith) q g (omega arith))
+loop_again : tie.Need-loop-preserved invariant_loop decreases_loop
+loop_again c =
+    (omega arith, omega arith, λ q g l. none_in_window c.before 56 (omega arith) (omega arith) q g (omega arith))
 
-pub onward-spec : {M : Type 1} → statement M
-onward-spec =
+pub onward_spec : {M : Type 1} → statement M
+onward_spec =
     tie.close
-    (tie.spec invariant-loop decreases-loop
+    (tie.spec invariant_loop decreases_loop
     (λ c. (omega arith, omega arith, λ q a b. absurd (omega arith)))
     (λ c. (omega arith, omega arith, λ q a b. absurd (omega arith)))
     (λ c κs. (omega arith, omega arith, omega arith))
     (omega arith)
-    returns-2
+    returns_2
     (λ c κs. (record { countable = omega arith; there = omega arith }, c.before.next-hit.ensures.3 (omega arith)))
     (λ c. omega (arith, leading_le 64 c.wanted.result))
     (omega arith)
     (omega arith)
-    returns-3
+    returns_3
     (omega arith)
     (omega arith)
-    loop-again)
+    loop_again)

@@ -12,26 +12,26 @@ returns c =
     let here = sym one.before.before.signal.ensures ∙ one.before.if1.true in
     rw (here, sym one.again.ensures ∙ c.if2.true) c.if2.true
 
-returns-2 : tie.Need-returns-2
+returns_2 : tie.Need-returns-2
 unfolding pair_at
-returns-2 c =
+returns_2 c =
     let two = c.before in
     let one = two.before.before in
     let here = sym one.before.before.signal.ensures ∙ one.before.if1.true in
     rw (here, sym one.again.ensures ∙ two.before.if2.false, sym two.again2.ensures ∙ c.if3.true) c.if3.true
 
-returns-3 : tie.Need-returns-3
+returns_3 : tie.Need-returns-3
 unfolding pair_at
-returns-3 c =
+returns_3 c =
     let two = c.before.before in
     let one = two.before.before in
     let here = sym one.before.before.signal.ensures ∙ one.before.if1.true in
     rw (here, sym one.again.ensures ∙ two.before.if2.false, sym two.again2.ensures ∙ c.before.if3.false) c.again3.ensures
 
-returns-4 : tie.Need-returns-4
+returns_4 : tie.Need-returns-4
 unfolding pair_at
-returns-4 c = rw (sym c.before.signal.ensures ∙ c.if1.false) c.if1.false
+returns_4 c = rw (sym c.before.signal.ensures ∙ c.if1.false) c.if1.false
 
 pub pair_spec : {M : Type 1} → statement M
 pair_spec =
-    tie.close (tie.spec (search rules) (search rules) (search rules) (search rules) returns returns-2 returns-3 returns-4)
+    tie.close (tie.spec (search rules) (search rules) (search rules) (search rules) returns returns_2 returns_3 returns_4)

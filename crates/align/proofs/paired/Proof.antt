@@ -10,7 +10,7 @@ use Rattle.line.specs.Signal.{signal}
 use Rattle.align.specs.Stands.{Signal, Pair}
 use Rattle.line.specs.Window.{bit_of, One}
 use Rattle.align.specs.Window.{Marks, Signals, Pairs}
-use Rattle.line.proofs.WindowLaws.{unturned, turned-at, bit-at}
+use Rattle.line.proofs.WindowLaws.{unturned, turned_at, bit_at_lem}
 use Rattle.align.proofs.paired.Statement.{statement}
 use Rattle.align.proofs.paired.Tie as tie
 
@@ -19,17 +19,17 @@ module _ (s : List ℕ) (i o : ℕ) (m : List ℕ) (h : o < 64) (marks : Marks s
   abbrev before : ℕ
   before = unturned (63 - o)
 
-  signal-marks : (k : ℕ) → k < 27 → Signal s (8 * i + o) k → (j : ℕ) → j < 6
+  signal_marks : (k : ℕ) → k < 27 → Signal s (8 * i + o) k → (j : ℕ) → j < 6
       → bit_of (get_or m (k + j) 0) before ≡ get_or signal j 0
-  signal-marks k l e j g =
-      sym (turned-at (get_or m (k + j) 0) (63 - o) (omega arith))
-      ∙ bit-at s (8 * (i + 32 + 64 * (k + j))) o (63 - o) _ (marks (k + j) (omega arith)) (omega arith)
+  signal_marks k l e j g =
+      sym (turned_at (get_or m (k + j) 0) (63 - o) (omega arith))
+      ∙ bit_at_lem s (8 * (i + 32 + 64 * (k + j))) o (63 - o) _ (marks (k + j) (omega arith)) (omega arith)
       ∙ ap (bit_at s) (omega arith) ∙ e j g
 
   pair_one : (g : List ℕ) (r k : ℕ) → Signals m 27 g → Pairs g 19 r → Pair s (8 * i + o) k → One r before
   pair_one g r k signals pairs e =
-      let at : (l : ℕ) → l < 27 → Signal s (8 * i + o) l → One (get_or g l 0) before = λ l b f. signals l b before (omega arith) (signal-marks l b f) in
-      pairs k (omega arith) before (at k (omega arith) e.here) e.j e.least-j e.most-j
+      let at : (l : ℕ) → l < 27 → Signal s (8 * i + o) l → One (get_or g l 0) before = λ l b f. signals l b before (omega arith) (signal_marks l b f) in
+      pairs k (omega arith) before (at k (omega arith) e.here) e.j e.least_j e.most_j
       (at (k + 8 * e.j) (omega arith) e.again)
 
 returns : tie.Need-returns
@@ -41,11 +41,11 @@ returns c o l h =
     let s = a.s.now in
     let x = m.marks.result in
     rw c.turned.ensures
-    (turned-at p.pairs.result (63 - o) (omega arith)
+    (turned_at p.pairs.result (63 - o) (omega arith)
     ∙ pair_one s a.i o x (omega arith) m.marks.ensures g.signals.result p.pairs.result h.0
     g.signals.ensures
     p.pairs.ensures
     h.1)
 
-pub paired-spec : {M : Type 1} → statement M
-paired-spec = tie.close (tie.spec (search rules) (search rules) (search rules) (search rules) returns)
+pub paired_spec : {M : Type 1} → statement M
+paired_spec = tie.close (tie.spec (search rules) (search rules) (search rules) (search rules) returns)

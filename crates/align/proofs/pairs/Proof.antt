@@ -6,26 +6,26 @@ use lib.Bits.{bit_and, bit_or}
 use lib.ListN.{get_or}
 use Rattle.line.specs.Window.{One}
 use Rattle.align.specs.Window.{Pairs}
-use Rattle.line.proofs.WindowLaws.{and_one, or-one-l, or-one-r}
+use Rattle.line.proofs.WindowLaws.{and_one, or_one_l, or_one_r}
 use Rattle.align.proofs.pairs.Statement.{statement}
 use Rattle.align.proofs.pairs.Tie as tie
 
-abbrev invariant-loop : tie.invariant-loop
-invariant-loop g r₀ k₀ r k = (k ≤ 19) × Pairs g k r
+abbrev invariant_loop : tie.invariant_loop
+invariant_loop g r₀ k₀ r k = (k ≤ 19) × Pairs g k r
 
-abbrev decreases-loop : tie.decreases-loop
-decreases-loop g r₀ k₀ r k = 19 - k
+abbrev decreases_loop : tie.decreases_loop
+decreases_loop g r₀ k₀ r k = 19 - k
 
 -- one of the three is enough
 one_of : (f : ℕ → ℕ) (n j : ℕ) → 1 ≤ j → j ≤ 3 → One (f j) n → One (bit_or (bit_or (f 1) (f 2)) (f 3)) n
 one_of f n zero h l e = absurd (omega arith)
-one_of f n (suc zero) h l e = or-one-l (bit_or (f 1) (f 2)) (f 3) n (or-one-l (f 1) (f 2) n e)
-one_of f n (suc (suc zero)) h l e = or-one-l (bit_or (f 1) (f 2)) (f 3) n (or-one-r (f 1) (f 2) n e)
-one_of f n (suc (suc (suc zero))) h l e = or-one-r (bit_or (f 1) (f 2)) (f 3) n e
+one_of f n (suc zero) h l e = or_one_l (bit_or (f 1) (f 2)) (f 3) n (or_one_l (f 1) (f 2) n e)
+one_of f n (suc (suc zero)) h l e = or_one_l (bit_or (f 1) (f 2)) (f 3) n (or_one_r (f 1) (f 2) n e)
+one_of f n (suc (suc (suc zero))) h l e = or_one_r (bit_or (f 1) (f 2)) (f 3) n e
 one_of f n (suc (suc (suc (suc j)))) h l e = absurd (omega arith)
 
-loop-again : tie.Need-loop-preserved invariant-loop decreases-loop
-loop-again c =
+loop_again : tie.Need-loop-preserved invariant_loop decreases_loop
+loop_again c =
     let l = c.before.before.before.before.before in
     let g = l.before.args.g.now in
     let k = l.loop.k in
@@ -33,18 +33,18 @@ loop-again c =
     let more = bit_and (get_or g k 0) (bit_or (bit_or (get_or g (k + 8) 0) (get_or g (k + 16) 0)) (get_or g (k + 24) 0)) in (
       omega arith,
       below_more _ k
-          (λ i h n e j a b f. or-one-l r more n (l.loop.invariant.1 i h n e j a b f))
-          (λ n e j a b f. or-one-r r more n (and_one _ _ n e (one_of (λ i. get_or g (k + 8 * i) 0) n j a b f))),
+          (λ i h n e j a b f. or_one_l r more n (l.loop.invariant.1 i h n e j a b f))
+          (λ n e j a b f. or_one_r r more n (and_one _ _ n e (one_of (λ i. get_or g (k + 8 * i) 0) n j a b f))),
     )
 
-pub pairs-spec : {M : Type 1} → statement M
-pairs-spec =
+pub pairs_spec : {M : Type 1} → statement M
+pairs_spec =
     tie.close
-    (tie.spec invariant-loop decreases-loop
+    (tie.spec invariant_loop decreases_loop
     (λ c. (omega arith, λ k h. absurd (omega arith)))
     (omega arith) (omega arith) (omega arith)
     (omega arith) (omega arith) (omega arith)
     (omega arith) (omega arith) (omega arith)
     (omega arith) (omega arith) (omega arith) (omega arith)
-    loop-again
+    loop_again
     (λ c k h. c.before.loop.invariant.1 k (omega arith)))

@@ -9,9 +9,9 @@ use lib.Bits.{bit_and}
 use lib.Dec.{eqb}
 use lib.ListN.{get_or}
 use Rattle.base.specs.Tab.{all}
-use Rattle.base.proofs.TabLaws.{all_more, all-fails}
+use Rattle.base.proofs.TabLaws.{all_more, all_fails}
 use Rattle.line.specs.Signal.{signal}
-use Rattle.align.specs.Place.{mark, signalAt}
+use Rattle.align.specs.Place.{mark, signal_at}
 use Rattle.align.proofs.signal.Statement.{statement}
 use Rattle.align.proofs.signal.Tie as tie
 
@@ -19,42 +19,42 @@ use Rattle.align.proofs.signal.Tie as tie
 abbrev right : List ℕ → ℕ → ℕ → ℕ → Bool
 right s p k i = eqb (mark s p (k + i)) (get_or signal i 0)
 
-abbrev invariant-loop : tie.invariant-loop
-invariant-loop s p k i₀ i = (i ≤ 6) × (all i (right s p k) ≡ true)
+abbrev invariant_loop : tie.invariant_loop
+invariant_loop s p k i₀ i = (i ≤ 6) × (all i (right s p k) ≡ true)
 
-abbrev decreases-loop : tie.decreases-loop
-decreases-loop s p k i₀ i = 6 - i
+abbrev decreases_loop : tie.decreases_loop
+decreases_loop s p k i₀ i = 6 - i
 
 -- the constant of the source holds the signal, the lowest bit first
-signal-bit : (i : ℕ) → i < 6 → bit_and (0b110100 / 2 ^ i) 1 ≡ get_or signal i 0
-signal-bit zero h = refl
-signal-bit (suc zero) h = refl
-signal-bit (suc (suc zero)) h = refl
-signal-bit (suc (suc (suc zero))) h = refl
-signal-bit (suc (suc (suc (suc zero)))) h = refl
-signal-bit (suc (suc (suc (suc (suc zero))))) h = refl
-signal-bit (suc (suc (suc (suc (suc (suc i)))))) h = omega arith
+signal_bit : (i : ℕ) → i < 6 → bit_and (0b110100 / 2 ^ i) 1 ≡ get_or signal i 0
+signal_bit zero h = refl
+signal_bit (suc zero) h = refl
+signal_bit (suc (suc zero)) h = refl
+signal_bit (suc (suc (suc zero))) h = refl
+signal_bit (suc (suc (suc (suc zero)))) h = refl
+signal_bit (suc (suc (suc (suc (suc zero))))) h = refl
+signal_bit (suc (suc (suc (suc (suc (suc i)))))) h = omega arith
 
-returns : tie.Need-returns invariant-loop decreases-loop
-unfolding signalAt
+returns : tie.Need-returns invariant_loop decreases_loop
+unfolding signal_at
 returns c =
     let l = c.before.before.before in
     let a = l.before.before.args in
     let i = l.loop.i in
     let t = right a.s.now a.p a.k in
-    sym (all-fails 6 t i (omega arith) (ne_eqb _ _ (λ e. c.if1.true (c.before.bit.ensures.0 ∙ e ∙ sym (signal-bit i (omega arith))))))
+    sym (all_fails 6 t i (omega arith) (ne_eqb _ _ (λ e. c.if1.true (c.before.bit.ensures.0 ∙ e ∙ sym (signal_bit i (omega arith))))))
 
-loop-again : tie.Need-loop-preserved invariant-loop decreases-loop
-loop-again c =
+loop_again : tie.Need-loop-preserved invariant_loop decreases_loop
+loop_again c =
     let l = c.before.before.before in
     let a = l.before.before.args in
     let i = l.loop.i in
     let t = right a.s.now a.p a.k in
-    (omega arith, all_more i t l.loop.invariant.1 (eq-eqb _ _ (sym c.before.bit.ensures.0 ∙ c.if1.false ∙ signal-bit i (omega arith))))
+    (omega arith, all_more i t l.loop.invariant.1 (eq-eqb _ _ (sym c.before.bit.ensures.0 ∙ c.if1.false ∙ signal_bit i (omega arith))))
 
-returns-2 : tie.Need-returns-2 invariant-loop decreases-loop
-unfolding signalAt
-returns-2 c =
+returns_2 : tie.Need-returns-2 invariant_loop decreases_loop
+unfolding signal_at
+returns_2 c =
     let l = c.before in
     let e : l.loop.i ≡ 6 = omega arith in
     sym (rw e at l.loop.invariant.1)
@@ -63,7 +63,7 @@ pub signal_spec : {M : Type 1} → statement M
 unfolding all
 signal_spec =
     tie.close
-    (tie.spec invariant-loop decreases-loop
+    (tie.spec invariant_loop decreases_loop
     (λ c. (omega arith, refl))
     (omega arith)
     (omega arith)
@@ -75,5 +75,5 @@ signal_spec =
     returns
     (omega arith)
     (omega arith)
-    loop-again
-    returns-2)
+    loop_again
+    returns_2)

@@ -7,18 +7,18 @@ use borrow.Author.Rules.{rules}
 use lib.ListN.{length, get_or, length-set}
 use Rattle.line.specs.Window.{bit_of}
 use Rattle.align.specs.Window.{SignalFrom, Signals}
-use Rattle.align.proofs.Rows.{put-more}
+use Rattle.align.proofs.Rows.{put_more}
 use Rattle.align.proofs.signals.Statement.{statement}
 use Rattle.align.proofs.signals.Tie as tie
 
-abbrev invariant-loop : tie.invariant-loop
-invariant-loop m g₀ k₀ g k = (k ≤ 27) × (length g ≡ 43) × Signals m k g
+abbrev invariant_loop : tie.invariant_loop
+invariant_loop m g₀ k₀ g k = (k ≤ 27) × (length g ≡ 43) × Signals m k g
 
-abbrev decreases-loop : tie.decreases-loop
-decreases-loop m g₀ k₀ g k = 27 - k
+abbrev decreases_loop : tie.decreases_loop
+decreases_loop m g₀ k₀ g k = 27 - k
 
-loop-again : tie.Need-loop-preserved invariant-loop decreases-loop
-loop-again c =
+loop_again : tie.Need-loop-preserved invariant_loop decreases_loop
+loop_again c =
     let l = c.before.before.before.before.before.before.before.before in
     let m = l.before.args.m.now in
     let g = l.loop.g in
@@ -33,13 +33,13 @@ loop-again c =
     (e 5 (omega arith)) in (
       omega arith,
       length-set g k _ ∙ l.loop.invariant.1,
-      put-more (SignalFrom m) g k _ (omega arith) l.loop.invariant.2 here,
+      put_more (SignalFrom m) g k _ (omega arith) l.loop.invariant.2 here,
     )
 
-pub signals-spec : {M : Type 1} → statement M
-signals-spec =
+pub signals_spec : {M : Type 1} → statement M
+signals_spec =
     tie.close
-    (tie.spec invariant-loop decreases-loop
+    (tie.spec invariant_loop decreases_loop
     (λ c. (omega arith, refl, λ k h. absurd (omega arith)))
     (omega arith) (omega arith) (omega arith)
     (omega arith) (omega arith) (omega arith)
@@ -49,5 +49,5 @@ signals-spec =
     (omega arith) (omega arith)
     (search rules)
     (omega arith) (omega arith) (omega arith) (omega arith)
-    loop-again
+    loop_again
     (λ c k h. c.before.loop.invariant.2 k (omega arith)))

@@ -3,5 +3,5 @@ use borrow.Author.Tests.{lt-ltb, le-ltb}
 use Rattle.align.proofs.unpaired.Statement.{statement}
 use Rattle.align.proofs.unpaired.Tie as tie
 
-pub unpaired-spec : {M : Type 1} → statement M
-unpaired-spec = tie.close (tie.spec (λ c. let h = c.if1.true in rw lt-ltb) (λ c. let h = c.if1.false in rw le-ltb))
+pub unpaired_spec : {M : Type 1} → statement M
+unpaired_spec = tie.close (tie.spec (λ c. let h = c.if1.true in rw lt-ltb) (λ c. let h = c.if1.false in rw le-ltb))

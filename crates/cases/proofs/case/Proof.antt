@@ -5,16 +5,16 @@ use lib.ListN.{length}
 use Rattle.cases.proofs.case.Statement.{statement}
 use Rattle.cases.proofs.case.Tie as tie
 
-abbrev invariant-loop : tie.invariant-loop
-invariant-loop line window₀ c bench₀ kept₀ at₀ window bench kept at = at ≤ length line + 1
+abbrev invariant_loop : tie.invariant_loop
+invariant_loop line window₀ c bench₀ kept₀ at₀ window bench kept at = at ≤ length line + 1
 
-abbrev decreases-loop : tie.decreases-loop
-decreases-loop line window₀ c bench₀ kept₀ at₀ window bench kept at = length line + 1 - at
+abbrev decreases_loop : tie.decreases_loop
+decreases_loop line window₀ c bench₀ kept₀ at₀ window bench kept at = length line + 1 - at
 
-pub case-spec : {M : Type 1} → statement M
-case-spec =
+pub case_spec : {M : Type 1} → statement M
+case_spec =
     tie.close
-    (tie.spec invariant-loop decreases-loop
+    (tie.spec invariant_loop decreases_loop
     (search rules) (search rules) (search rules) (search rules) (search rules) (search rules) (search rules)
     (search rules) (search rules) (search rules) (search rules) (search rules) (search rules) (search rules)
     (search rules) (search rules) (search rules) (search rules) (search rules) (search rules) (search rules))

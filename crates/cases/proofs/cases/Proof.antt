@@ -5,15 +5,15 @@ use lib.ListN.{length}
 use Rattle.cases.proofs.cases.Statement.{statement}
 use Rattle.cases.proofs.cases.Tie as tie
 
-abbrev invariant-loop : tie.invariant-loop
-invariant-loop s kept₀ window₀ at₀ kept window at = at ≤ length s + 1
+abbrev invariant_loop : tie.invariant_loop
+invariant_loop s kept₀ window₀ at₀ kept window at = at ≤ length s + 1
 
-abbrev decreases-loop : tie.decreases-loop
-decreases-loop s kept₀ window₀ at₀ kept window at = length s + 1 - at
+abbrev decreases_loop : tie.decreases_loop
+decreases_loop s kept₀ window₀ at₀ kept window at = length s + 1 - at
 
-pub cases-spec : {M : Type 1} → statement M
-cases-spec =
+pub cases_spec : {M : Type 1} → statement M
+cases_spec =
     tie.close
-    (tie.spec invariant-loop decreases-loop
+    (tie.spec invariant_loop decreases_loop
     (search rules) (search rules) (search rules) (search rules) (search rules) (search rules)
     (search rules) (search rules) (search rules) (search rules) (search rules) (search rules) (search rules))

@@ -7,14 +7,14 @@ use Rattle.base.proofs.PartLaws.{copy_more, copy_done}
 use Rattle.chunk.proofs.copy.Statement.{statement}
 use Rattle.chunk.proofs.copy.Tie as tie
 
-abbrev invariant-loop : tie.invariant-loop
-invariant-loop from to₀ i₀ i-end to i = (i ≤ i-end) × (i-end ≡ length from) × (length to ≡ length from) × (take i to ≡ take i from)
+abbrev invariant_loop : tie.invariant_loop
+invariant_loop from to₀ i₀ i-end to i = (i ≤ i-end) × (i-end ≡ length from) × (length to ≡ length from) × (take i to ≡ take i from)
 
-abbrev decreases-loop : tie.decreases-loop
-decreases-loop from to₀ i₀ i-end to i = i-end - i
+abbrev decreases_loop : tie.decreases_loop
+decreases_loop from to₀ i₀ i-end to i = i-end - i
 
-loop-again : tie.Need-loop-preserved invariant-loop decreases-loop
-loop-again c =
+loop_again : tie.Need-loop-preserved invariant_loop decreases_loop
+loop_again c =
     let l = c.before.before.loop in
     let from = c.before.before.before.args.from.now in (
       omega arith,
@@ -23,7 +23,7 @@ loop-again c =
       copy_more l.to from l.i (omega arith) (omega arith) l.invariant.3,
     )
 
-returns : tie.Need-returns invariant-loop decreases-loop
+returns : tie.Need-returns invariant_loop decreases_loop
 returns c =
     let l = c.before.loop in
     let from = c.before.before.args.from.now in
@@ -32,12 +32,12 @@ returns c =
 pub copy_spec : {M : Type 1} → statement M
 copy_spec =
     tie.close
-    (tie.spec invariant-loop decreases-loop
+    (tie.spec invariant_loop decreases_loop
     (λ c. (omega arith, refl, c.requires, refl))
     (omega arith)
     (omega arith)
     (omega arith)
     (omega arith)
-    loop-again
+    loop_again
     (omega arith)
     returns)

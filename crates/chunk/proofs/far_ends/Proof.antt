@@ -1,23 +1,23 @@
 -- `far_ends` meets its contract.
 use native.Mathlib.Omega.{arith}
 use borrow.Author.Rules.{rules}
-use Rattle.growth.proofs.Counts.{far-end-few}
+use Rattle.growth.proofs.Counts.{far_end_few}
 use Rattle.chunk.proofs.far_ends.Statement.{statement}
 use Rattle.chunk.proofs.far_ends.Tie as tie
 
-add-result : tie.Need-overflow-add-result
-add-result c =
+add_result : tie.Need-overflow-add-result
+add_result c =
     let st = c.before.before.before.before in
     let a = st.args in
     omega (
       arith,
-      c.before.far-end.ensures,
+      c.before.far_end_errors.ensures,
       c.far-end2.ensures,
-      far-end-few a.near.now a.p a.m,
-      far-end-few a.far.now a.q a.n,
+      far_end_few a.near.now a.p a.m,
+      far_end_few a.far.now a.q a.n,
       st.requires.2,
       st.requires.3,
     )
 
-pub far-ends-spec : {M : Type 1} → statement M
-far-ends-spec = tie.close (tie.spec (search rules) (search rules) add-result (search rules))
+pub far_ends_spec : {M : Type 1} → statement M
+far_ends_spec = tie.close (tie.spec (search rules) (search rules) add_result (search rules))

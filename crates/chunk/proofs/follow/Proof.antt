@@ -5,7 +5,7 @@ use native.Mathlib.Omega.{arith}
 use borrow.Author.Rules.{rules}
 use lib.ListN.{length}
 use Rattle.chunk.specs.Look.{Tracks}
-use Rattle.chunk.proofs.FollowLaws.{small-more, few-more, gone-within, whole_is, tracks, tracked-few, follows, stays}
+use Rattle.chunk.proofs.FollowLaws.{small_more, few_more, gone_within, whole_is, tracks, tracked_few, follows, stays}
 use Rattle.chunk.proofs.follow.Statement.{statement}
 use Rattle.chunk.proofs.follow.Tie as tie
 
@@ -33,28 +33,28 @@ few : (t : tie.After-track) → let n = length t.before.before.before.before.bef
 few t =
     let w = t.before.before in
     let o = w.before.before in
-    tracked-few o.before.before.args.s.now (o.start_of_lem.result % 8) w.before.kept.result t.track.result (tracked t)
+    tracked_few o.before.before.args.s.now (o.start_of_lem.result % 8) w.before.kept.result t.track.result (tracked t)
 
-lost-by-requires : tie.Need-lost-by-requires
-lost-by-requires c κs =
+lost_by_requires : tie.Need-lost-by-requires
+lost_by_requires c κs =
     let t = c.before.before.before in
     let st = t.before.before.before.before.before.before in
     (omega (arith, st.requires.0.used), omega (arith, few t, st.requires.1))
 
-gaining-requires : tie.Need-gaining-requires
-gaining-requires c κs =
+gaining_requires : tie.Need-gaining-requires
+gaining_requires c κs =
     let b = c.before.before in
     let t = b.before.before in
     let g = t.track.result.used in
     let st = t.before.before.before.before.before.before in
     let h = (few t).0 in (
-      small-more st.args.c (2 ^ 41) (2 ^ 50) (omega arith) st.requires.0,
-      omega (arith, gone-within (length st.args.s.now) g t.track.result.lost b.gone-by.result h b.gone-by.ensures, st.requires.1),
-      few-more b.before.gained.result (56 * g) (2 ^ 50) (omega (arith, h, st.requires.1)) b.before.gained.ensures.few,
+      small_more st.args.c (2 ^ 41) (2 ^ 50) (omega arith) st.requires.0,
+      omega (arith, gone_within (length st.args.s.now) g t.track.result.lost b.gone-by.result h b.gone-by.ensures, st.requires.1),
+      few_more b.before.gained.result (56 * g) (2 ^ 50) (omega (arith, h, st.requires.1)) b.before.gained.ensures.few,
     )
 
-returns-2 : tie.Need-returns-2
-returns-2 c =
+returns_2 : tie.Need-returns-2
+returns_2 c =
     let l = c.before in
     let b = l.before.before in
     let t = b.before.before in
@@ -64,10 +64,10 @@ returns-2 c =
     follows a.c a.s.now (o.start_of_lem.result % 8) w.before.kept.result t.track.result b.before.gained.result
     (ap (λ x. x % 8) o.start_of_lem.ensures) w.before.kept.ensures
     (omega (arith, t.before.if1.false, whole_is a.s.now (o.start_of_lem.result % 8), w.whole.ensures)) (tracked t) b.before.gained.ensures
-    b.gone-by.result l.lost-by.result c.gaining.result b.gone-by.ensures l.lost-by.ensures c.gaining.ensures
+    b.gone-by.result l.lost_by_lem.result c.gaining.result b.gone-by.ensures l.lost_by_lem.ensures c.gaining.ensures
 
-pub follow-spec : {M : Type 1} → statement M
-follow-spec =
+pub follow_spec : {M : Type 1} → statement M
+follow_spec =
     tie.close
     (tie.spec
     (search rules)
@@ -79,8 +79,8 @@ follow-spec =
     (search rules)
     (λ c κs. omega (arith, few c.before, c.before.before.before.before.before.before.before.requires.1))
     (search rules)
-    lost-by-requires
-    gaining-requires
+    lost_by_requires
+    gaining_requires
     (search rules)
     (search rules)
-    returns-2)
+    returns_2)

@@ -4,22 +4,22 @@ use mathlib.Core.Path.{sym, ap}
 use native.Mathlib.Omega.{arith}
 use borrow.Author.Rules.{rules}
 use lib.ListN.{length, drop, length-drop}
-use Rattle.growth.specs.Growth.{readFrom}
+use Rattle.growth.specs.Growth.{read_from}
 use Rattle.growth.specs.declared.Line.{Line}
-use Rattle.growth.proofs.Bounds.{start-within}
+use Rattle.growth.proofs.Bounds.{start_within}
 use Rattle.chunk.proofs.BufferLaws.{to_end}
-use Rattle.chunk.proofs.FollowLaws.{looks-as}
-use Rattle.chunk.proofs.LookLaws.{from-octet}
+use Rattle.chunk.proofs.FollowLaws.{looks_as}
+use Rattle.chunk.proofs.LookLaws.{from_octet}
 use Rattle.chunk.proofs.from_place.Statement.{statement}
 use Rattle.chunk.proofs.from_place.Tie as tie
 
 -- the start lies in the image, which is not long
 roomy : (c : tie.Start) → let a = c.args in
     (a.place + 512 * a.k ≤ 8 * length a.s.now) × (length a.s.now ≤ 1073741824) × (a.before ≤ 1099511627776)
-roomy c = (start-within c.args.s.now c.args.place c.args.k c.requires.2, omega (arith, c.requires.1), omega (arith, c.requires.0))
+roomy c = (start_within c.args.s.now c.args.place c.args.k c.requires.2, omega (arith, c.requires.1), omega (arith, c.requires.0))
 
-follow-requires : tie.Need-follow-requires
-follow-requires c κs =
+follow_requires : tie.Need-follow-requires
+follow_requires c κs =
     let st = c.before.before.before in
     let s = st.args.s.now in
     let e = (st.args.place + 512 * st.args.k) / 8 in
@@ -55,11 +55,11 @@ returns c =
     let s = a.s.now in
     let e = (a.place + 512 * a.k) / 8 in
     let r = roomy u.before.before.before in
-    looks-as (ap (λ (y : Line). readFrom y (drop e s)) (sym u.unread.ensures))
-    (from-octet s (readFrom u.unread.result (drop e s)) f.follow.result e (omega arith) (rw (to_end s e) at f.follow.ensures))
+    looks_as (ap (λ (y : Line). read_from y (drop e s)) (sym u.unread.ensures))
+    (from_octet s (read_from u.unread.result (drop e s)) f.follow.result e (omega arith) (rw (to_end s e) at f.follow.ensures))
 
-pub from-place-spec : {M : Type 1} → statement M
-from-place-spec =
+pub from_place_spec : {M : Type 1} → statement M
+from_place_spec =
     tie.close
     (tie.spec
     (λ c. omega (arith, roomy c.before))
@@ -71,7 +71,7 @@ from-place-spec =
     (search rules)
     (λ c. let r = roomy c.before.before in omega arith)
     (search rules)
-    follow-requires
+    follow_requires
     (λ c. let f = c.before.before in let r = roomy f.before.before.before.before in omega (arith, ends f))
     (λ c. let f = c.before.before in let r = roomy f.before.before.before.before in omega arith)
     (λ c. let f = c.before.before.before in let r = roomy f.before.before.before.before in omega (arith, ends f))

@@ -3,7 +3,7 @@ use Prim.Native.Nat.{◌+◌, ◌-◌, ◌*◌}
 use mathlib.Core.Path.{ap₂, ◌∙◌}
 use borrow.Author.Rules.{rules}
 use Rattle.measure.specs.Reading.{disagreeing}
-use Rattle.chunk.proofs.GainLaws.{gains-some}
+use Rattle.chunk.proofs.GainLaws.{gains_some}
 use Rattle.chunk.proofs.gained.Statement.{statement}
 use Rattle.chunk.proofs.gained.Tie as tie
 
@@ -13,13 +13,13 @@ returns c =
     let d = j.before in
     let st = d.before.before.before in
     let a = st.args in
-    gains-some a.s.now a.q a.h a.g a.words a.wordbits j.judge.result c.far-end.result st.requires.2 st.requires.3
+    gains_some a.s.now a.q a.h a.g a.words a.wordbits j.judge.result c.far_end_errors.result st.requires.2 st.requires.3
     (j.judge.ensures
     ∙ ap₂ (λ x y. disagreeing a.s.now (a.q + 2048 * x) (y - x)) d.before.compared.ensures d.compared2.ensures)
-    c.far-end.ensures
+    c.far_end_errors.ensures
 
-pub gained-spec : {M : Type 1} → statement M
-gained-spec =
+pub gained_spec : {M : Type 1} → statement M
+gained_spec =
     tie.close
     (tie.spec
     (search rules)

@@ -4,13 +4,13 @@ use borrow.Author.Rules.{rules}
 use Rattle.chunk.proofs.gaining.Statement.{statement}
 use Rattle.chunk.proofs.gaining.Tie as tie
 
-add-line-6 : tie.Need-overflow-add-line-6
-add-line-6 c =
+add_line_6 : tie.Need-overflow-add-line-6
+add_line_6 c =
     let st = c.before.before.before.before.before.before.before.before.before.before.before in
     omega (arith, st.requires.0.wordbits, st.requires.2.wordbits)
 
-pub gaining-spec : {M : Type 1} → statement M
-gaining-spec =
+pub gaining_spec : {M : Type 1} → statement M
+gaining_spec =
     tie.close
     (tie.spec
     (search rules)
@@ -18,5 +18,5 @@ gaining-spec =
     (search rules)
     (search rules)
     (search rules)
-    add-line-6
+    add_line_6
     (search rules))

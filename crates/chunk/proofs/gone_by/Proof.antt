@@ -7,8 +7,8 @@ use borrow.Author.Tests.{eq-eqb, ne_eqb}
 use Rattle.chunk.proofs.gone_by.Statement.{statement}
 use Rattle.chunk.proofs.gone_by.Tie as tie
 
-pub gone-by-spec : {M : Type 1} → statement M
-gone-by-spec =
+pub gone_by_spec : {M : Type 1} → statement M
+gone_by_spec =
     tie.close
     (tie.spec
     (search rules)

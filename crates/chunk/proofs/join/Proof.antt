@@ -5,7 +5,7 @@ use native.Mathlib.Omega.{arith}
 use borrow.Author.Rules.{rules}
 use lib.ListN.{length, take}
 use lib.Seq.{length-take-le}
-use Rattle.chunk.proofs.BufferLaws.{both-put, both-length}
+use Rattle.chunk.proofs.BufferLaws.{both_put, both_length}
 use Rattle.chunk.proofs.join.Statement.{statement}
 use Rattle.chunk.proofs.join.Tie as tie
 
@@ -21,14 +21,14 @@ returns c =
     let a = st.args in
     let fits : length a.window.now ≤ length a.image.now = omega (arith, st.requires) in (
       refl,
-      both-length a.window.now k.copy.new.1.0 a.image.now k.copy.ensures fits a.chunk.now j.copy2.new.1.0
+      both_length a.window.now k.copy.new.1.0 a.image.now k.copy.ensures fits a.chunk.now j.copy2.new.1.0
           j.copy2.ensures st.requires,
-      both-put a.window.now k.copy.new.1.0 a.image.now k.copy.ensures fits a.chunk.now j.copy2.new.1.0
+      both_put a.window.now k.copy.new.1.0 a.image.now k.copy.ensures fits a.chunk.now j.copy2.new.1.0
           j.copy2.ensures st.requires,
     )
 
-pub join-spec : {M : Type 1} → statement M
-join-spec =
+pub join_spec : {M : Type 1} → statement M
+join_spec =
     tie.close
     (tie.spec
     (search rules)

@@ -1,12 +1,12 @@
 -- `judge_both` meets its contract.
 use native.Mathlib.Omega.{arith}
 use borrow.Author.Rules.{rules}
-use Rattle.growth.proofs.Counts.{disagreeing-few}
+use Rattle.growth.proofs.Counts.{disagreeing_few}
 use Rattle.chunk.proofs.judge_both.Statement.{statement}
 use Rattle.chunk.proofs.judge_both.Tie as tie
 
-add-result : tie.Need-overflow-add-result
-add-result c =
+add_result : tie.Need-overflow-add-result
+add_result c =
     let j = c.before.before in
     let st = j.before.before.before.before.before in
     let a = st.args in
@@ -14,11 +14,11 @@ add-result c =
       arith,
       j.judge-by.ensures,
       c.judge-by2.ensures,
-      disagreeing-few a.near.now a.p a.m,
-      disagreeing-few a.far.now a.q a.n,
+      disagreeing_few a.near.now a.p a.m,
+      disagreeing_few a.far.now a.q a.n,
       st.requires.2,
       st.requires.3,
     )
 
-pub judge-both-spec : {M : Type 1} → statement M
-judge-both-spec = tie.close (tie.spec (search rules) (λ c κs. search rules) (λ c κs. search rules) add-result (search rules))
+pub judge_both_spec : {M : Type 1} → statement M
+judge_both_spec = tie.close (tie.spec (search rules) (λ c κs. search rules) (λ c κs. search rules) add_result (search rules))

@@ -3,16 +3,16 @@ use mathlib.Core.Path.{sym, ap, ◌∙◌}
 use native.Mathlib.Omega.{arith}
 use borrow.Author.Rules.{rules}
 use lib.ListN.{length, length-drop}
-use Rattle.chunk.proofs.BufferLaws.{to_end, kept-fits, kept_put}
+use Rattle.chunk.proofs.BufferLaws.{to_end, kept_fits, kept_put}
 use Rattle.chunk.proofs.keep.Statement.{statement}
 use Rattle.chunk.proofs.keep.Tie as tie
 
-copy-requires : tie.Need-copy-requires
-copy-requires c κs =
+copy_requires : tie.Need-copy-requires
+copy_requires c κs =
     let st = c.before.before.before.before in
     let s = st.args.s.now in
     let gone = st.args.gone in
-    kept-fits s st.args.window.now gone st.requires.1 ∙ sym (ap length (to_end s gone) ∙ length-drop gone s)
+    kept_fits s st.args.window.now gone st.requires.1 ∙ sym (ap length (to_end s gone) ∙ length-drop gone s)
 
 returns : tie.Need-returns
 returns c =
@@ -30,7 +30,7 @@ keep_spec =
     (search rules)
     (search rules)
     (λ c. let st = c.before.before.before in omega (arith, length-drop st.args.gone st.args.s.now, st.requires.1))
-    (λ c. let st = c.before.before.before.before in sym (kept-fits st.args.s.now st.args.window.now st.args.gone st.requires.1))
-    copy-requires
+    (λ c. let st = c.before.before.before.before in sym (kept_fits st.args.s.now st.args.window.now st.args.gone st.requires.1))
+    copy_requires
     (search rules)
     returns)

@@ -5,8 +5,8 @@ use borrow.Author.Tests.{eq-eqb, ne_eqb}
 use Rattle.chunk.proofs.lost_by.Statement.{statement}
 use Rattle.chunk.proofs.lost_by.Tie as tie
 
-pub lost-by-spec : {M : Type 1} → statement M
-lost-by-spec =
+pub lost_by_spec : {M : Type 1} → statement M
+lost_by_spec =
     tie.close
     (tie.spec
     (λ c. rw (eq-eqb c.before.args.lost 0 (omega arith)))

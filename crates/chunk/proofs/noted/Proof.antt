@@ -3,8 +3,8 @@ use borrow.Author.Rules.{rules}
 use Rattle.chunk.proofs.noted.Statement.{statement}
 use Rattle.chunk.proofs.noted.Tie as tie
 
-pub noted-spec : {M : Type 1} → statement M
-noted-spec =
+pub noted_spec : {M : Type 1} → statement M
+noted_spec =
     tie.close
     (tie.spec
     (search rules)

@@ -2,9 +2,9 @@
 use Prim.Native.Nat.{◌+◌, ◌*◌}
 use native.Mathlib.Omega.{arith}
 use borrow.Author.Rules.{rules}
-use Rattle.measure.specs.Reading.{payloadOf}
-use Rattle.measure.proofs.Laws.{payload-length}
-use Rattle.chunk.proofs.BufferLaws.{two-outputs}
+use Rattle.measure.specs.Reading.{payload_of}
+use Rattle.measure.proofs.Laws.{payload_length}
+use Rattle.chunk.proofs.BufferLaws.{two_outputs}
 use Rattle.chunk.proofs.put_payloads.Statement.{statement}
 use Rattle.chunk.proofs.put_payloads.Tie as tie
 
@@ -13,12 +13,12 @@ returns c =
     let two = c.before.before in
     let one = two.before.before.before.before in
     let a = one.before.before.before.before.before.args in
-    two-outputs (payloadOf a.near.now a.p a.m) (payloadOf a.far.now a.q a.n) a.out.now _ _
+    two_outputs (payload_of a.near.now a.p a.m) (payload_of a.far.now a.q a.n) a.out.now _ _
     (496 * a.m) (496 * a.n) (496 * (a.m + a.n))
-    (payload-length a.near.now a.p a.m) one.payload-of.ensures two.payload-of2.ensures (omega arith)
+    (payload_length a.near.now a.p a.m) one.payload-of.ensures two.payload-of2.ensures (omega arith)
 
-pub put-payloads-spec : {M : Type 1} → statement M
-put-payloads-spec =
+pub put_payloads_spec : {M : Type 1} → statement M
+put_payloads_spec =
     tie.close
     (tie.spec
     (search rules)

@@ -6,8 +6,8 @@ use native.Mathlib.Omega.{arith}
 use borrow.Author.Rules.{rules}
 use lib.ListN.{length}
 use Rattle.measure.specs.Reading.{compared, disagreeing}
-use Rattle.growth.proofs.Counts.{disagreeing-few, far-end-few}
-use Rattle.chunk.proofs.FollowLaws.{small-more, gone-within, whole-bits, tracked-few, both-line}
+use Rattle.growth.proofs.Counts.{disagreeing_few, far_end_few}
+use Rattle.chunk.proofs.FollowLaws.{small_more, gone_within, whole_bits, tracked_few, both_line}
 use Rattle.chunk.proofs.read_both.Statement.{statement}
 use Rattle.chunk.proofs.read_both.Tie as tie
 
@@ -16,14 +16,14 @@ few : (c : tie.Start) → let x = c.args.x in
     (512 * x.used ≤ 1073741824) × (x.words ≤ 1073741824) × (x.wordbits ≤ 1073741824)
 few c =
     let a = c.args in
-    let h = tracked-few a.near.now a.q a.h a.x c.requires.5 in
+    let h = tracked_few a.near.now a.q a.h a.x c.requires.5 in
     (omega (arith, h.0, c.requires.1), omega (arith, h.2, c.requires.1), omega (arith, h.3, c.requires.1))
 
-few-far : (c : tie.Start) → let y = c.args.y in
+few_far : (c : tie.Start) → let y = c.args.y in
     (512 * y.used ≤ 1073741824) × (y.lost ≤ 1073741824) × (y.words ≤ 1073741824) × (y.wordbits ≤ 1073741824)
-few-far c =
+few_far c =
     let a = c.args in
-    let h = tracked-few a.far.now a.q 1 a.y c.requires.8 in
+    let h = tracked_few a.far.now a.q 1 a.y c.requires.8 in
     (omega (arith, h.0, c.requires.2), omega (arith, h.1, c.requires.2), omega (arith, h.2, c.requires.2), omega (arith, h.3, c.requires.2))
 
 there : (c : tie.Start) → let a = c.args in
@@ -32,17 +32,17 @@ there c =
     let a = c.args in
     let t = c.requires.5 in
     let u = c.requires.8 in (
-      whole-bits a.near.now a.q a.x.used (omega (arith, t.at_most, c.requires.7)) t.at_most,
-      whole-bits a.far.now a.q a.y.used (omega (arith, u.at_most, u.at_least)) u.at_most,
+      whole_bits a.near.now a.q a.x.used (omega (arith, t.at_most, c.requires.7)) t.at_most,
+      whole_bits a.far.now a.q a.y.used (omega (arith, u.at_most, u.at_least)) u.at_most,
     )
 
-judge-both-requires : tie.Need-judge-both-requires
-judge-both-requires c κs =
+judge_both_requires : tie.Need-judge-both-requires
+judge_both_requires c κs =
     let k = c.before in
     let j = k.before in
     let st = j.before.before.before.before.before in
     let f = (few st).0 in
-    let g = (few-far st).0 in
+    let g = (few_far st).0 in
     let x : k.compared2.result ≡ compared st.args.x.used = k.compared2.ensures in
     let y : c.compared3.result ≡ compared st.args.y.used = c.compared3.ensures in (
       λ o. record { countable = omega (arith, st.requires.1); there = omega (arith, (there st).0) },
@@ -51,30 +51,30 @@ judge-both-requires c κs =
       omega arith,
     )
 
-far-ends-requires : tie.Need-far-ends-requires
-far-ends-requires c κs =
+far_ends_requires : tie.Need-far-ends-requires
+far_ends_requires c κs =
     let st = c.before.before.before.before.before.before.before.before in
     let f = (few st).0 in
-    let g = (few-far st).0 in (
+    let g = (few_far st).0 in (
       record { countable = omega (arith, st.requires.1); there = omega (arith, (there st).0, st.requires.5.at_least) },
       record { countable = omega (arith, st.requires.2); there = omega (arith, (there st).1, st.requires.8.at_least) },
       omega arith,
       omega arith,
     )
 
-gone-few : (c : tie.Start) → c.args.gone ≤ 1073741824
-gone-few c =
+gone_few : (c : tie.Start) → c.args.gone ≤ 1073741824
+gone_few c =
     let a = c.args in
     let n = length a.far.now in
-    let h = tracked-few a.far.now a.q 1 a.y c.requires.8 in
-    omega (arith, gone-within n a.y.used a.y.lost a.gone h.0 c.requires.9, c.requires.2)
+    let h = tracked_few a.far.now a.q 1 a.y c.requires.8 in
+    omega (arith, gone_within n a.y.used a.y.lost a.gone h.0 c.requires.9, c.requires.2)
 
 -- where all is added
 abbrev start : tie.After-far-ends → tie.Start
 start f = f.before.before.before.before.before.before.before.before.before
 
-gaining-requires : tie.Need-gaining-requires
-gaining-requires c κs =
+gaining_requires : tie.Need-gaining-requires
+gaining_requires c κs =
     let f = c.before.before.before.before.before.before.before in
     let j = f.before in
     let k3 = j.before in
@@ -83,9 +83,9 @@ gaining-requires c κs =
     let st = start f in
     let a = st.args in
     let x = few st in
-    let y = few-far st in (
-      small-more a.c (2 ^ 39) (2 ^ 50) (omega arith) st.pre.0,
-      omega (arith, gone-few st),
+    let y = few_far st in (
+      small_more a.c (2 ^ 39) (2 ^ 50) (omega arith) st.pre.0,
+      omega (arith, gone_few st),
       record {
         multiframes = omega arith;
         words = omega arith;
@@ -93,8 +93,8 @@ gaining-requires c κs =
             omega (
               arith,
               j.judge-both.ensures,
-              disagreeing-few a.near.now (a.q + 2048 * k1.compared.result) (k2.compared2.result - k1.compared.result),
-              disagreeing-few a.far.now (a.q + 2048) (k3.compared3.result - 1),
+              disagreeing_few a.near.now (a.q + 2048 * k1.compared.result) (k2.compared2.result - k1.compared.result),
+              disagreeing_few a.far.now (a.q + 2048) (k3.compared3.result - 1),
               k2.compared2.ensures,
               k3.compared3.ensures,
             );
@@ -102,8 +102,8 @@ gaining-requires c κs =
             omega (
               arith,
               f.far-ends.ensures,
-              far-end-few a.near.now (a.q + 4096 * a.h) (a.x.used - a.h),
-              far-end-few a.far.now (a.q + 4096) (a.y.used - 1),
+              far_end_few a.near.now (a.q + 4096 * a.h) (a.x.used - a.h),
+              far_end_few a.far.now (a.q + 4096) (a.y.used - 1),
             );
         wordbits = omega arith;
       },
@@ -139,12 +139,12 @@ returns c =
     let st = start f in
     let a = st.args in
     c.gaining.ensures
-    ∙ both-line a.c a.near.now a.q a.h a.x st.pre.3 st.pre.4 st.pre.5 st.pre.6 st.pre.7 a.far.now a.y
-    st.pre.8 a.gone l.lost-by.result st.pre.9 l.lost-by.ensures j.judge-both.result f.far-ends.result (errored j)
+    ∙ both_line a.c a.near.now a.q a.h a.x st.pre.3 st.pre.4 st.pre.5 st.pre.6 st.pre.7 a.far.now a.y
+    st.pre.8 a.gone l.lost_by_lem.result st.pre.9 l.lost_by_lem.ensures j.judge-both.result f.far-ends.result (errored j)
     f.far-ends.ensures
 
-pub read-both-spec : {M : Type 1} → statement M
-read-both-spec =
+pub read_both_spec : {M : Type 1} → statement M
+read_both_spec =
     tie.close
     (tie.spec
     (search rules)
@@ -155,21 +155,21 @@ read-both-spec =
     (λ c κs. omega (arith, (few c.before.before.before.before.before).0))
     (search rules)
     (search rules)
-    (λ c κs. omega (arith, (few-far c.before.before.before.before.before.before).0))
+    (λ c κs. omega (arith, (few_far c.before.before.before.before.before.before).0))
     (search rules)
-    judge-both-requires
+    judge_both_requires
     (search rules)
     (search rules)
     (search rules)
-    far-ends-requires
-    (λ c. let st = start c in omega (arith, (few st).0, (few-far st).0))
-    (λ c. let st = start c.before.before in omega (arith, (few st).1, (few-far st).2))
-    (λ c. let st = start c.before.before.before.before in omega (arith, (few st).2, (few-far st).3))
+    far_ends_requires
+    (λ c. let st = start c in omega (arith, (few st).0, (few_far st).0))
+    (λ c. let st = start c.before.before in omega (arith, (few st).1, (few_far st).2))
+    (λ c. let st = start c.before.before.before.before in omega (arith, (few st).2, (few_far st).3))
     (search rules)
     (λ c. let st = start c.before.before.before.before.before in omega (arith, (few st).0))
-    (λ c. let st = start c.before.before.before.before.before in omega (arith, (few st).0, gone-few st))
+    (λ c. let st = start c.before.before.before.before.before in omega (arith, (few st).0, gone_few st))
     (λ c. let st = start c.before.before.before.before.before.before in omega (arith, (few st).0, st.pre.0.used))
     (λ c. let st = start c.before.before.before.before.before.before in omega (arith, st.pre.7, st.pre.4))
-    (λ c κs. let st = start c.before.before.before.before.before.before in (omega (arith, (few st).0, st.pre.0.used), omega (arith, (few-far st).1)))
-    gaining-requires
+    (λ c κs. let st = start c.before.before.before.before.before.before in (omega (arith, (few st).0, st.pre.0.used), omega (arith, (few_far st).1)))
+    gaining_requires
     returns)

@@ -6,8 +6,8 @@ use Rattle.align.specs.Place.{start_of}
 use Rattle.chunk.proofs.start_of.Statement.{statement}
 use Rattle.chunk.proofs.start_of.Tie as tie
 
-pub start-of-spec : {M : Type 1} → statement M
-start-of-spec =
+pub start_of_spec : {M : Type 1} → statement M
+start_of_spec =
     tie.close
     (tie.spec
     (search rules)

@@ -17,8 +17,8 @@ returns c =
       p = _;
       k = _;
       stands = f.found.given.1;
-      not-lost = eqb-true f.before.before.args.c.lost 0 e;
+      not_lost = eqb-true f.before.before.args.c.lost 0 e;
     }
 
-pub stood-spec : {M : Type 1} → statement M
-stood-spec = tie.close (tie.spec (search rules) (search rules) (search rules) returns (λ c. never) (λ c. never))
+pub stood_spec : {M : Type 1} → statement M
+stood_spec = tie.close (tie.spec (search rules) (search rules) (search rules) returns (λ c. never) (λ c. never))

@@ -10,21 +10,21 @@ use lib.Dec.{leb}
 use lib.ListN.{take}
 use Rattle.growth.specs.Growth.{grown}
 use Rattle.growth.specs.Small.{Small}
-use Rattle.chunk.proofs.FollowLaws.{small-more}
-use Rattle.chunk.proofs.TakeLaws.{takes-as}
+use Rattle.chunk.proofs.FollowLaws.{small_more}
+use Rattle.chunk.proofs.TakeLaws.{takes_as}
 use Rattle.chunk.proofs.take.Statement.{statement}
 use Rattle.chunk.proofs.take.Tie as tie
 
-small-39 : (c : tie.Start) → Small c.args.c (2 ^ 39)
-small-39 c = small-more c.args.c 134217728 (2 ^ 39) (omega arith) c.requires.0
+small_39 : (c : tie.Start) → Small c.args.c (2 ^ 39)
+small_39 c = small_more c.args.c 134217728 (2 ^ 39) (omega arith) c.requires.0
 
-small-40 : (c : tie.Start) → Small c.args.c (2 ^ 40)
-small-40 c = small-more c.args.c 134217728 (2 ^ 40) (omega arith) c.requires.0
+small_40 : (c : tie.Start) → Small c.args.c (2 ^ 40)
+small_40 c = small_more c.args.c 134217728 (2 ^ 40) (omega arith) c.requires.0
 
-take-image-requires : tie.Need-take-image-requires
-take-image-requires c κs =
+take_image_requires : tie.Need-take-image-requires
+take_image_requires c κs =
     let st = c.before.before.before.before.before.before.before.before in
-    (small-40 st, omega (arith, st.requires.3), st.requires.1)
+    (small_40 st, omega (arith, st.requires.3), st.requires.1)
 
 -- nothing is in the window
 returns : tie.Need-returns
@@ -32,21 +32,21 @@ returns c =
     let t = c.before.before.before.before.before.before in
     let e = t.before.before.before.before in
     let a = e.before.before.before.before.before.args in
-    takes-as (ap (λ n. grown a.c (take n a.window.now ++ a.chunk.now)) e.if1.true) t.take-image.ensures
+    takes_as (ap (λ n. grown a.c (take n a.window.now ++ a.chunk.now)) e.if1.true) t.take-image.ensures
 
-take-short-requires : tie.Need-take-short-requires
-take-short-requires c κs =
+take_short_requires : tie.Need-take-short-requires
+take_short_requires c κs =
     let e = c.before.before.before in
     let st = e.before.before.before.before.before.before in
-    (small-40 st, st.requires.1, e.if2.true)
+    (small_40 st, st.requires.1, e.if2.true)
 
-take-on-requires : tie.Need-take-on-requires
-take-on-requires c κs =
+take_on_requires : tie.Need-take-on-requires
+take_on_requires c κs =
     let e = c.before.before.before in
     let s = e.before in
     let st = s.before.before.before.before.before.before.before in
     let b = (and-eq-true_iff s.stood.result (leb st.args.fill 1024)).0 e.if3.true in (
-      small-39 st,
+      small_39 st,
       s.stood.ensures b.0,
       st.requires.1,
       leb-true st.args.fill 1024 b.1,
@@ -54,45 +54,45 @@ take-on-requires c κs =
       omega (arith, st.requires.3),
     )
 
-take-middle-requires : tie.Need-take-middle-requires
-take-middle-requires c κs =
+take_middle_requires : tie.Need-take-middle-requires
+take_middle_requires c κs =
     let e = c.before.before.before in
     let st = e.before.before.before.before.before.before.before.before.before in
-    (small-40 st, st.requires.1, st.requires.2, e.if4.true)
+    (small_40 st, st.requires.1, st.requires.2, e.if4.true)
 
-take-long-requires : tie.Need-take-long-requires
-take-long-requires c κs =
+take_long_requires : tie.Need-take-long-requires
+take_long_requires c κs =
     let e = c.before.before.before in
     let st = e.before.before.before.before.before.before.before.before.before in
-    (small-39 st, st.requires.1, st.requires.2, omega (arith, e.if4.false), omega (arith, st.requires.3))
+    (small_39 st, st.requires.1, st.requires.2, omega (arith, e.if4.false), omega (arith, st.requires.3))
 
 pub take_spec : {M : Type 1} → statement M
 take_spec =
     tie.close
     (tie.spec
-    take-image-requires
+    take_image_requires
     (search rules)
     (search rules)
     (search rules)
     returns
     (search rules)
-    take-short-requires
+    take_short_requires
     (search rules)
     (search rules)
     (search rules)
     (λ c. c.before.before.before.before.before.before.take_short.ensures)
     (search rules)
-    take-on-requires
+    take_on_requires
     (search rules)
     (search rules)
     (search rules)
     (λ c. c.before.before.before.before.before.before.take_on.ensures)
-    take-middle-requires
+    take_middle_requires
     (search rules)
     (search rules)
     (search rules)
     (λ c. c.before.before.before.before.before.before.take-middle.ensures)
-    take-long-requires
+    take_long_requires
     (search rules)
     (search rules)
     (search rules)

@@ -5,8 +5,8 @@ use native.Mathlib.Omega.{arith}
 use borrow.Author.Rules.{rules}
 use lib.ListN.{length, take, length-drop}
 use Rattle.chunk.proofs.BufferLaws.{to_end, filled}
-use Rattle.chunk.proofs.FollowLaws.{small-more}
-use Rattle.chunk.proofs.TakeLaws.{near-length, takes-as, cut-there, lies-in-chunk}
+use Rattle.chunk.proofs.FollowLaws.{small_more}
+use Rattle.chunk.proofs.TakeLaws.{near_length, takes_as, cut_there, lies_in_chunk}
 use Rattle.chunk.proofs.take_far.Statement.{statement}
 use Rattle.chunk.proofs.take_far.Tie as tie
 
@@ -16,7 +16,7 @@ full c = filled c.args.window.now c.args.fill c.requires.1 c.requires.2
 long : (c : tie.Start) → length c.args.near.now ≡ c.args.fill + c.args.n
 long c =
     let a = c.args in
-    near-length a.near.now (take a.fill a.window.now) a.chunk.now a.fill a.n (full c) c.requires.4 c.requires.6
+    near_length a.near.now (take a.fill a.window.now) a.chunk.now a.fill a.n (full c) c.requires.4 c.requires.6
 
 -- what is kept of the first image lies in the chunk
 far : (l : tie.After-look) → let a = l.before.before.before.before.before.before.args in let g = l.look.result.gone in
@@ -24,16 +24,16 @@ far : (l : tie.After-look) → let a = l.before.before.before.before.before.befo
 far l =
     let st = l.before.before.before.before.before.before in
     let a = st.args in
-    lies-in-chunk a.near.now (take a.fill a.window.now) a.chunk.now a.fill a.n (full st) st.requires.4 st.requires.6
+    lies_in_chunk a.near.now (take a.fill a.window.now) a.chunk.now a.fill a.n (full st) st.requires.4 st.requires.6
     a.c l.look.result l.look.ensures st.requires.7
 
-look-requires : tie.Need-look-requires
-look-requires c κs =
+look_requires : tie.Need-look-requires
+look_requires c κs =
     let st = c.before.before.before.before.before in
-    (small-more st.args.c (2 ^ 39) (2 ^ 40) (omega arith) st.requires.0, omega (arith, long st, st.requires.2, st.requires.3))
+    (small_more st.args.c (2 ^ 39) (2 ^ 40) (omega arith) st.requires.0, omega (arith, long st, st.requires.2, st.requires.3))
 
-take-two-requires : tie.Need-take-two-requires
-take-two-requires c κs =
+take_two_requires : tie.Need-take-two-requires
+take_two_requires c κs =
     let l = c.before.before.before.before.before in
     let st = l.before.before.before.before.before.before in
     let n = l.look.result.gone - st.args.fill in (
@@ -50,8 +50,8 @@ returns c =
     let l = t.before.before.before.before.before.before in
     let st = l.before.before.before.before.before.before in
     let a = st.args in
-    takes-as
-    (cut-there a.near.now (take a.fill a.window.now) a.chunk.now a.fill a.n (full st) st.requires.4 st.requires.6
+    takes_as
+    (cut_there a.near.now (take a.fill a.window.now) a.chunk.now a.fill a.n (full st) st.requires.4 st.requires.6
     a.c l.look.result l.look.ensures st.requires.7)
     t.take-two.ensures
 
@@ -60,16 +60,16 @@ starts : (l : tie.After-look) → let a = l.before.before.before.before.before.b
     l.look.result.gone - a.fill ≤ length a.chunk.now
 starts l = omega (arith, (far l).1, l.before.before.before.before.before.before.requires.4)
 
-pub take-far-spec : {M : Type 1} → statement M
-take-far-spec =
+pub take_far_spec : {M : Type 1} → statement M
+take_far_spec =
     tie.close
     (tie.spec
-    look-requires
+    look_requires
     (λ c. (far c.before).0)
     (λ c. starts c.before)
     (λ c. let h = starts c.before in omega arith)
     (search rules)
-    take-two-requires
+    take_two_requires
     (search rules)
     (search rules)
     (search rules)

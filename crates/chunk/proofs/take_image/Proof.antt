@@ -5,8 +5,8 @@ use native.Mathlib.Omega.{arith}
 use borrow.Author.Rules.{rules}
 use lib.ListN.{length}
 use Rattle.chunk.specs.Look.{told}
-use Rattle.chunk.specs.Taking.{lacksRoom}
-use Rattle.chunk.proofs.TakeLaws.{has_room, takes-as, not_taken, taken-image, kept-short}
+use Rattle.chunk.specs.Taking.{lacks_room}
+use Rattle.chunk.proofs.TakeLaws.{has_room, takes_as, not_taken, taken_image, kept_short}
 use Rattle.chunk.proofs.take_image.Statement.{statement}
 use Rattle.chunk.proofs.take_image.Tie as tie
 
@@ -16,59 +16,59 @@ returns c =
     let l = k.before in
     let a = l.before.before.before.before.before.args in
     rw c.lacking.ensures
-    (takes-as l.look.ensures.tells
+    (takes_as l.look.ensures.tells
     (not_taken a.c a.fill a.window.now a.payload.now a.slot0.now (told a.image.now l.look.result)
     (sym k.lacks-room.ensures ∙ c.before.if1.true)))
 
 -- there is room
 room : (c : tie.Else1) → let l = c.before.before in let a = l.before.before.before.before.before.args in
-    lacksRoom (length a.payload.now) (length a.slot0.now) l.look.result.multiframes ≡ false
+    lacks_room (length a.payload.now) (length a.slot0.now) l.look.result.multiframes ≡ false
 room c = sym c.before.lacks-room.ensures ∙ c.if1.false
 
-payload-of-requires : tie.Need-payload-of-requires
-payload-of-requires c κs =
+payload_of_requires : tie.Need-payload-of-requires
+payload_of_requires c κs =
     let e = c.before in
     let l = e.before.before in
     let st = l.before.before.before.before.before in
     (record { countable = omega (arith, st.requires.1); there = l.look.ensures.there }, (has_room _ _ _ (room e)).0)
 
-slot0-of-requires : tie.Need-slot0-of-requires
-slot0-of-requires c κs =
+slot0_of_requires : tie.Need-slot0-of-requires
+slot0_of_requires c κs =
     let e = c.before.before.before.before.before in
     let l = e.before.before in
     let st = l.before.before.before.before.before in
     (record { countable = omega (arith, st.requires.1); there = l.look.ensures.there }, (has_room _ _ _ (room e)).1)
 
-keep-requires : tie.Need-keep-requires
-keep-requires c κs =
+keep_requires : tie.Need-keep-requires
+keep_requires c κs =
     let l = c.before.before.before.before.before.before.before.before.before.before.before.before in
     let st = l.before.before.before.before.before in
-    (l.look.ensures.within, omega (arith, kept-short st.args.c st.args.image.now l.look.result l.look.ensures, st.requires.2))
+    (l.look.ensures.within, omega (arith, kept_short st.args.c st.args.image.now l.look.result l.look.ensures, st.requires.2))
 
-returns-2 : tie.Need-returns-2
-returns-2 c =
+returns_2 : tie.Need-returns-2
+returns_2 c =
     let k = c.before.before in
     let o = k.before.before.before.before.before in
     let p = o.before.before.before.before in
     let e = p.before.before in
     let l = e.before.before in
     let a = l.before.before.before.before.before.args in
-    takes-as l.look.ensures.tells
-    (taken-image a.c a.fill a.window.now a.payload.now a.slot0.now a.image.now l.look.result
-    k.keep.result k.keep.ensures.0 (room e) _ _ _ k.keep.ensures.1 p.payload-of.ensures o.slot0-of.ensures)
+    takes_as l.look.ensures.tells
+    (taken_image a.c a.fill a.window.now a.payload.now a.slot0.now a.image.now l.look.result
+    k.keep.result k.keep.ensures.0 (room e) _ _ _ k.keep.ensures.1 p.payload-of.ensures o.slot0_of_lem.ensures)
 
-pub take-image-spec : {M : Type 1} → statement M
-take-image-spec =
+pub take_image_spec : {M : Type 1} → statement M
+take_image_spec =
     tie.close
     (tie.spec
     (search rules)
     (λ c κs. let st = c.before.before.before.before.before in omega (arith, c.look.ensures.there, st.requires.1))
     (search rules)
     returns
-    payload-of-requires
-    slot0-of-requires
-    keep-requires
+    payload_of_requires
+    slot0_of_requires
+    keep_requires
     (search rules)
     (search rules)
     (search rules)
-    returns-2)
+    returns_2)

@@ -5,8 +5,8 @@ use native.Mathlib.Omega.{arith}
 use borrow.Author.Rules.{rules}
 use lib.ListN.{length, take}
 use lib.Seq.{length-take-le}
-use Rattle.growth.proofs.Bounds.{grown-short}
-use Rattle.chunk.proofs.BufferLaws.{filled, zeros-length, image-length}
+use Rattle.growth.proofs.Bounds.{grown_short}
+use Rattle.chunk.proofs.BufferLaws.{filled, zeros_length, image_length}
 use Rattle.chunk.proofs.take_long.Statement.{statement}
 use Rattle.chunk.proofs.take_long.Tie as tie
 
@@ -17,7 +17,7 @@ near : (c : tie.Start) → length (take 2048 c.args.chunk.now) ≡ 2048
 near c = length-take-le 2048 c.args.chunk.now c.requires.3
 
 zeros : (i : tie.After-image) → length i.before.before.before.zeros-4096.result ≡ 4096
-zeros i = zeros-length i.before.before.before.zeros-4096.result 4096 i.before.before.before.zeros-4096.ensures
+zeros i = zeros_length i.before.before.before.zeros-4096.result 4096 i.before.before.before.zeros-4096.ensures
 
 -- the image
 fits : (j : tie.After-join) → j.join.result ≤ 4096
@@ -28,11 +28,11 @@ fits j =
 long : (j : tie.After-join) → length (take j.join.result j.join.new.1.1.0) ≡ j.join.result
 long j =
     let a = j.before.before.before.before.before.before.before.before.before.args in
-    image-length (take a.fill a.window.now) (take 2048 a.chunk.now) j.join.new.1.1.0 j.join.result j.join.ensures.0
+    image_length (take a.fill a.window.now) (take 2048 a.chunk.now) j.join.new.1.1.0 j.join.result j.join.ensures.0
     j.join.ensures.2
 
-take-far-requires : tie.Need-take-far-requires
-take-far-requires c κs =
+take_far_requires : tie.Need-take-far-requires
+take_far_requires c κs =
     let j = c.before.before.before.before.before in
     let st = j.before.before.before.before.before.before.before.before.before in (
       st.requires.0,
@@ -42,11 +42,11 @@ take-far-requires c κs =
       st.requires.3,
       st.requires.4,
       j.join.ensures.2,
-      grown-short st.args.c (take j.join.result j.join.new.1.1.0),
+      grown_short st.args.c (take j.join.result j.join.new.1.1.0),
     )
 
-pub take-long-spec : {M : Type 1} → statement M
-take-long-spec =
+pub take_long_spec : {M : Type 1} → statement M
+take_long_spec =
     tie.close
     (tie.spec
     (search rules)
@@ -59,7 +59,7 @@ take-long-spec =
     omega (arith, full st, near st, zeros c, st.requires.2))
     (λ c. let j = c.before in omega (arith, fits j, j.join.ensures.1, zeros j.before))
     (λ c. sym (long c.before.before))
-    take-far-requires
+    take_far_requires
     (search rules)
     (search rules)
     (search rules)

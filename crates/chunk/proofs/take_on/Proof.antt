@@ -6,11 +6,11 @@ use native.Mathlib.Omega.{arith}
 use borrow.Author.Rules.{rules}
 use lib.ListN.{length, take}
 use lib.Seq.{length-take-le}
-use Rattle.growth.specs.Growth.{keptOf}
+use Rattle.growth.specs.Growth.{kept_of}
 use Rattle.chunk.specs.Look.{Tracks}
-use Rattle.chunk.proofs.BufferLaws.{filled, zeros-length, image-length}
+use Rattle.chunk.proofs.BufferLaws.{filled, zeros_length, image_length}
 use Rattle.chunk.proofs.FollowLaws.{tracks}
-use Rattle.chunk.proofs.TakeLaws.{next-used, next-holds}
+use Rattle.chunk.proofs.TakeLaws.{next_used, next_holds}
 use Rattle.chunk.proofs.take_on.Statement.{statement}
 use Rattle.chunk.proofs.take_on.Tie as tie
 
@@ -22,11 +22,11 @@ abbrev octets : tie.Start → ℕ
 octets c = 512 * ((c.args.fill + 511) / 512) + 513 - c.args.fill
 
 ends : (c : tie.Start) → c.args.fill + octets c ≡ 512 * ((c.args.fill + 511) / 512) + 513
-ends c = omega (arith, (next-holds c.args.fill c.requires.3).0)
+ends c = omega (arith, (next_holds c.args.fill c.requires.3).0)
 
 part : (c : tie.Start) → (c.args.fill + octets c ≤ 1537) × (octets c ≤ length c.args.chunk.now)
 part c =
-    let h = (next-holds c.args.fill c.requires.3).1 in
+    let h = (next_holds c.args.fill c.requires.3).1 in
     let e : c.args.fill + octets c ≤ 1537 = omega (arith, ends c, h) in
     (e, omega (arith, e, c.requires.4))
 
@@ -34,7 +34,7 @@ near : (c : tie.Start) → length (take (octets c) c.args.chunk.now) ≡ octets 
 near c = length-take-le (octets c) c.args.chunk.now (part c).1
 
 zeros : (i : tie.After-image) → length i.before.before.before.zeros-2048.result ≡ 2048
-zeros i = zeros-length i.before.before.before.zeros-2048.result 2048 i.before.before.before.zeros-2048.ensures
+zeros i = zeros_length i.before.before.before.zeros-2048.result 2048 i.before.before.before.zeros-2048.ensures
 
 -- the image
 abbrev start : tie.After-join → tie.Start
@@ -53,32 +53,32 @@ long : (j : tie.After-join) → length (image j) ≡ j.join.result
 long j =
     let st = start j in
     let a = st.args in
-    image-length (take a.fill a.window.now) (take (octets st) a.chunk.now) j.join.new.1.1.0 j.join.result j.join.ensures.0
+    image_length (take a.fill a.window.now) (take (octets st) a.chunk.now) j.join.new.1.1.0 j.join.result j.join.ensures.0
     j.join.ensures.2
 
 -- the start's bit
 abbrev bit : tie.After-join → ℕ
 bit j = j.before.before.before.before.before.start_of_lem.result % 8
 
-whole-are : (w : tie.After-whole) → let j = w.before.before.before.before in
+whole_are : (w : tie.After-whole) → let j = w.before.before.before.before in
     w.whole.result ≡ ((start j).args.fill + 511) / 512 + 1
-whole-are w =
+whole_are w =
     let j = w.before.before.before.before in
-    next-used (((start j).args.fill + 511) / 512) (bit j) j.join.result w.whole.result (omega arith) (is j ∙ ends (start j)) w.whole.ensures
+    next_used (((start j).args.fill + 511) / 512) (bit j) j.join.result w.whole.result (omega arith) (is j ∙ ends (start j)) w.whole.ensures
 
-track-requires : tie.Need-track-requires
-track-requires c κs =
+track_requires : tie.Need-track-requires
+track_requires c κs =
     let j = c.before.before.before.before in
     let b : bit j ≤ 7 = omega arith in (
       record {
         countable = omega (arith, long j, fits j);
-        there = omega (arith, long j, is j, ends (start j), whole-are c, b);
+        there = omega (arith, long j, is j, ends (start j), whole_are c, b);
       },
-      omega (arith, whole-are c, c.before.kept.ensures),
+      omega (arith, whole_are c, c.before.kept.ensures),
     )
 
 tracked : (t : tie.After-track) → let j = t.before.before.before.before.before in
-    Tracks (image j) (bit j) (keptOf (start j).args.c.used) t.track.result
+    Tracks (image j) (bit j) (kept_of (start j).args.c.used) t.track.result
 tracked t =
     let w = t.before in
     let k = w.before in
@@ -88,8 +88,8 @@ tracked t =
     (tracks (image j) (bit j) k.kept.result w.whole.result t.track.result
     (w.whole.ensures ∙ ap (λ n. (8 * n - bit j) / 4096) (sym (long j))) e.0 e.2 e.3 e.4 e.5 e.6)
 
-take-tracked-requires : tie.Need-take-tracked-requires
-take-tracked-requires c κs =
+take_tracked_requires : tie.Need-take-tracked-requires
+take_tracked_requires c κs =
     let t = c.before.before.before in
     let j = t.before.before.before.before.before in
     let st = start j in (
@@ -105,15 +105,15 @@ take-tracked-requires c κs =
       tracked t,
     )
 
-pub take-on-spec : {M : Type 1} → statement M
-take-on-spec =
+pub take_on_spec : {M : Type 1} → statement M
+take_on_spec =
     tie.close
     (tie.spec
     (search rules)
     (search rules)
     (search rules)
     (search rules)
-    (λ c. let st = c.before.before.before.before.before in omega (arith, (next-holds st.args.fill st.requires.3).0))
+    (λ c. let st = c.before.before.before.before.before in omega (arith, (next_holds st.args.fill st.requires.3).0))
     (search rules)
     (search rules)
     (λ c. sym (full c.before.before.before.before.before.before.before))
@@ -126,8 +126,8 @@ take-on-spec =
     (λ c. sym (long c.before.before))
     (search rules)
     (λ c κs. omega (arith, fits c.before.before.before))
-    track-requires
-    take-tracked-requires
+    track_requires
+    take_tracked_requires
     (search rules)
     (search rules)
     (search rules)

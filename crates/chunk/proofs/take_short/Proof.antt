@@ -5,8 +5,8 @@ use native.Mathlib.Omega.{arith}
 use borrow.Author.Rules.{rules}
 use lib.ListN.{length, take}
 use Rattle.growth.specs.Growth.{grown}
-use Rattle.chunk.proofs.BufferLaws.{filled, zeros-length, image-length}
-use Rattle.chunk.proofs.TakeLaws.{takes-as}
+use Rattle.chunk.proofs.BufferLaws.{filled, zeros_length, image_length}
+use Rattle.chunk.proofs.TakeLaws.{takes_as}
 use Rattle.chunk.proofs.take_short.Statement.{statement}
 use Rattle.chunk.proofs.take_short.Tie as tie
 
@@ -14,7 +14,7 @@ full : (c : tie.Start) → length (take c.args.fill c.args.window.now) ≡ c.arg
 full c = filled c.args.window.now c.args.fill c.requires.1 (omega (arith, c.requires.2))
 
 zeros : (i : tie.After-image) → length i.before.before.zeros-2048.result ≡ 2048
-zeros i = zeros-length i.before.before.zeros-2048.result 2048 i.before.before.zeros-2048.ensures
+zeros i = zeros_length i.before.before.zeros-2048.result 2048 i.before.before.zeros-2048.ensures
 
 -- the image
 fits : (j : tie.After-join) → j.join.result ≤ 2048
@@ -25,11 +25,11 @@ fits j =
 long : (j : tie.After-join) → length (take j.join.result j.join.new.1.1.0) ≡ j.join.result
 long j =
     let a = j.before.before.before.before.before.before.before.before.args in
-    image-length (take a.fill a.window.now) a.chunk.now j.join.new.1.1.0 j.join.result j.join.ensures.0
+    image_length (take a.fill a.window.now) a.chunk.now j.join.new.1.1.0 j.join.result j.join.ensures.0
     j.join.ensures.2
 
-take-image-requires : tie.Need-take-image-requires
-take-image-requires c κs =
+take_image_requires : tie.Need-take-image-requires
+take_image_requires c κs =
     let j = c.before.before.before.before.before in
     let st = j.before.before.before.before.before.before.before.before in
     (st.requires.0, omega (arith, long j, fits j), st.requires.1)
@@ -39,10 +39,10 @@ returns c =
     let t = c.before.before.before.before.before.before in
     let j = t.before.before.before.before.before.before in
     let a = j.before.before.before.before.before.before.before.before.args in
-    takes-as (ap (grown a.c) (sym j.join.ensures.2)) t.take-image.ensures
+    takes_as (ap (grown a.c) (sym j.join.ensures.2)) t.take-image.ensures
 
-pub take-short-spec : {M : Type 1} → statement M
-take-short-spec =
+pub take_short_spec : {M : Type 1} → statement M
+take_short_spec =
     tie.close
     (tie.spec
     (search rules)
@@ -52,7 +52,7 @@ take-short-spec =
     (λ c κs. let st = c.before.before.before.before.before.before.before in omega (arith, full st, zeros c, st.requires.2))
     (λ c. let j = c.before in omega (arith, fits j, j.join.ensures.1, zeros j.before))
     (λ c. sym (long c.before.before))
-    take-image-requires
+    take_image_requires
     (search rules)
     (search rules)
     (search rules)

@@ -5,11 +5,11 @@ use mathlib.Core.Path.{◌≡◌, ap, ◌∙◌}
 use native.Mathlib.Omega.{arith}
 use borrow.Author.Rules.{rules}
 use lib.ListN.{length, take, length-drop}
-use Rattle.growth.specs.Growth.{Grown, grown, keptOf}
-use Rattle.growth.proofs.ReadCut.{found-reads}
+use Rattle.growth.specs.Growth.{Grown, grown, kept_of}
+use Rattle.growth.proofs.ReadCut.{found_reads}
 use Rattle.chunk.proofs.BufferLaws.{to_end, filled}
-use Rattle.chunk.proofs.FollowLaws.{whole_is, used_all, lost-keeps-none}
-use Rattle.chunk.proofs.TakeLaws.{near-length, takes-as, next-used, next-holds, cut-both}
+use Rattle.chunk.proofs.FollowLaws.{whole_is, used_all, lost_keeps_none}
+use Rattle.chunk.proofs.TakeLaws.{near_length, takes_as, next_used, next_holds, cut_both}
 use Rattle.chunk.proofs.take_tracked.Statement.{statement}
 use Rattle.chunk.proofs.take_tracked.Tie as tie
 
@@ -20,23 +20,23 @@ full c = filled c.args.window.now c.args.fill c.requires.2 (omega (arith, c.requ
 part : (c : tie.Start) → let a = c.args in
     (a.fill + a.n ≤ 1537) × (a.n ≤ length a.chunk.now)
 part c =
-    let h = next-holds c.args.fill c.requires.3 in
+    let h = next_holds c.args.fill c.requires.3 in
     (omega (arith, h.1, c.requires.7), omega (arith, h.1, c.requires.7, c.requires.4))
 
 long : (c : tie.Start) → length c.args.near.now ≡ c.args.fill + c.args.n
 long c =
     let a = c.args in
-    near-length a.near.now (take a.fill a.window.now) a.chunk.now a.fill a.n (full c) (part c).1 c.requires.8
+    near_length a.near.now (take a.fill a.window.now) a.chunk.now a.fill a.n (full c) (part c).1 c.requires.8
 
-take-far-requires : tie.Need-take-far-requires
-take-far-requires c κs =
+take_far_requires : tie.Need-take-far-requires
+take_far_requires c κs =
     let t = c.before.before.before in
     let st = t.before.before.before.before.before.before.before in
     let a = st.args in
     let s = st.requires.1 in
     let e : length (grown a.c a.near.now).window ≡ 0 =
-    ap (λ (y : Grown). length y.window) (found-reads a.c s.p s.k s.stands a.near.now s.not-lost)
-    ∙ lost-keeps-none a.c a.near.now a.q a.x st.requires.6 st.requires.9 t.if1.true in (
+    ap (λ (y : Grown). length y.window) (found_reads a.c s.p s.k s.stands a.near.now s.not_lost)
+    ∙ lost_keeps_none a.c a.near.now a.q a.x st.requires.6 st.requires.9 t.if1.true in (
       st.requires.0,
       st.requires.2,
       omega (arith, st.requires.3),
@@ -55,21 +55,21 @@ used : (e : tie.Else1) → (start e).args.x.used ≡ ((start e).args.fill + 511)
 used e =
     let st = start e in
     let a = st.args in
-    next-used ((a.fill + 511) / 512) a.q (length a.near.now) a.x.used (omega (arith, st.pre.6)) (long st ∙ st.pre.7)
-    (used_all a.near.now a.q (keptOf a.c.used) a.x st.pre.9 e.if1.false ∙ whole_is a.near.now a.q)
+    next_used ((a.fill + 511) / 512) a.q (length a.near.now) a.x.used (omega (arith, st.pre.6)) (long st ∙ st.pre.7)
+    (used_all a.near.now a.q (kept_of a.c.used) a.x st.pre.9 e.if1.false ∙ whole_is a.near.now a.q)
 
 -- what is let go
 gone : (e : tie.Else1) → let a = (start e).args in
     (1 ≤ a.x.used) × (a.fill ≤ 512 * (a.x.used - 1)) × (512 * (a.x.used - 1) ≤ 1024)
 gone e =
-    let h = next-holds (start e).args.fill (start e).requires.3 in
+    let h = next_holds (start e).args.fill (start e).requires.3 in
     (omega (arith, used e), omega (arith, used e, h.0), omega (arith, used e, h.1))
 
 from : (e : tie.Else1) → let a = (start e).args in 512 * (a.x.used - 1) - a.fill ≤ length a.chunk.now
 from e = omega (arith, (gone e).1, (gone e).2, (start e).requires.4)
 
-take-both-requires : tie.Need-take-both-requires
-take-both-requires c κs =
+take_both_requires : tie.Need-take-both-requires
+take_both_requires c κs =
     let e = c.before.before.before.before.before in
     let st = start e in
     let a = st.args in
@@ -87,22 +87,22 @@ take-both-requires c κs =
       rw (far, whole_is) (omega (arith, rest, (gone e).1, (gone e).2, st.pre.4, st.pre.6)),
     )
 
-returns-2 : tie.Need-returns-2
-returns-2 c =
+returns_2 : tie.Need-returns-2
+returns_2 c =
     let t = c.before.before.before.before.before.before in
     let e = t.before.before.before.before.before.before in
     let st = start e in
     let a = st.args in
-    takes-as
-    (cut-both a.c a.near.now (take a.fill a.window.now) a.chunk.now a.fill a.n a.q a.x (full st) (part st).1
+    takes_as
+    (cut_both a.c a.near.now (take a.fill a.window.now) a.chunk.now a.fill a.n a.q a.x (full st) (part st).1
     st.pre.8 st.pre.1 st.pre.6 st.pre.9 e.if1.false (gone e).0 (gone e).1)
     t.take-both.ensures
 
-pub take-tracked-spec : {M : Type 1} → statement M
-take-tracked-spec =
+pub take_tracked_spec : {M : Type 1} → statement M
+take_tracked_spec =
     tie.close
     (tie.spec
-    take-far-requires
+    take_far_requires
     (search rules)
     (search rules)
     (search rules)
@@ -113,8 +113,8 @@ take-tracked-spec =
     (λ c. from c.before)
     (λ c. let h = from c.before in omega arith)
     (search rules)
-    take-both-requires
+    take_both_requires
     (search rules)
     (search rules)
     (search rules)
-    returns-2)
+    returns_2)

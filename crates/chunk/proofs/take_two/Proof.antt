@@ -7,18 +7,18 @@ use borrow.Author.Rules.{rules}
 use lib.ListN.{length}
 use Rattle.growth.specs.Growth.{grown, after}
 use Rattle.chunk.specs.Look.{told}
-use Rattle.chunk.specs.Taking.{lacksRoom}
-use Rattle.chunk.proofs.FollowLaws.{small-more}
-use Rattle.chunk.proofs.TakeLaws.{has_room, takes-as, not_taken, taken-two, kept-short, small-then}
+use Rattle.chunk.specs.Taking.{lacks_room}
+use Rattle.chunk.proofs.FollowLaws.{small_more}
+use Rattle.chunk.proofs.TakeLaws.{has_room, takes_as, not_taken, taken_two, kept_short, small_then}
 use Rattle.chunk.proofs.take_two.Statement.{statement}
 use Rattle.chunk.proofs.take_two.Tie as tie
 
-look-requires : tie.Need-look-requires
-look-requires c κs =
+look_requires : tie.Need-look-requires
+look_requires c κs =
     let st = c.before.before.before.before.before.before in
     let a = st.args in (
-      small-more a.x.line (2 ^ 39 + length a.near.now) (2 ^ 40) (omega (arith, st.requires.1))
-          (small-then a.c a.near.now a.x st.requires.4 (2 ^ 39) st.requires.0),
+      small_more a.x.line (2 ^ 39 + length a.near.now) (2 ^ 40) (omega (arith, st.requires.1))
+          (small_then a.c a.near.now a.x st.requires.4 (2 ^ 39) st.requires.0),
       st.requires.2,
     )
 
@@ -41,7 +41,7 @@ returns c =
     let l = k.before in
     let a = l.before.before.before.before.before.before.before.args in
     rw c.lacking.ensures
-    (takes-as (both l)
+    (takes_as (both l)
     (not_taken a.c a.fill a.window.now a.payload.now a.slot0.now
     (after (told a.near.now a.x) (told a.far.now l.look.result))
     (sym k.lacks-room.ensures ∙ c.before.if1.true)))
@@ -50,11 +50,11 @@ returns c =
 room : (c : tie.Else1)
     → let l = c.before.before in
     let a = l.before.before.before.before.before.before.before.args in
-    lacksRoom (length a.payload.now) (length a.slot0.now) (a.x.multiframes + l.look.result.multiframes) ≡ false
+    lacks_room (length a.payload.now) (length a.slot0.now) (a.x.multiframes + l.look.result.multiframes) ≡ false
 room c = sym c.before.lacks-room.ensures ∙ c.if1.false
 
-put-payloads-requires : tie.Need-put-payloads-requires
-put-payloads-requires c κs =
+put_payloads_requires : tie.Need-put-payloads-requires
+put_payloads_requires c κs =
     let e = c.before in
     let l = e.before.before in
     let st = l.before.before.before.before.before.before.before in (
@@ -63,8 +63,8 @@ put-payloads-requires c κs =
       (has_room _ _ _ (room e)).0,
     )
 
-put-slots0-requires : tie.Need-put-slots0-requires
-put-slots0-requires c κs =
+put_slots0_requires : tie.Need-put-slots0-requires
+put_slots0_requires c κs =
     let e = c.before.before.before.before.before in
     let l = e.before.before in
     let st = l.before.before.before.before.before.before.before in (
@@ -73,41 +73,41 @@ put-slots0-requires c κs =
       (has_room _ _ _ (room e)).1,
     )
 
-keep-requires : tie.Need-keep-requires
-keep-requires c κs =
+keep_requires : tie.Need-keep-requires
+keep_requires c κs =
     let e = c.before.before.before.before.before.before.before.before.before.before in
     let l = e.before.before in
     let st = l.before.before.before.before.before.before.before in (
       l.look.ensures.within,
-      omega (arith, kept-short st.args.x.line st.args.far.now l.look.result l.look.ensures, st.requires.3),
+      omega (arith, kept_short st.args.x.line st.args.far.now l.look.result l.look.ensures, st.requires.3),
     )
 
-returns-2 : tie.Need-returns-2
-returns-2 c =
+returns_2 : tie.Need-returns-2
+returns_2 c =
     let k = c.before.before in
     let o = k.before.before.before.before.before in
     let p = o.before.before.before.before in
     let e = p.before.before in
     let l = e.before.before in
     let a = l.before.before.before.before.before.before.before.args in
-    takes-as (both l)
-    (taken-two a.c a.fill a.window.now a.payload.now a.slot0.now a.near.now a.far.now a.x
+    takes_as (both l)
+    (taken_two a.c a.fill a.window.now a.payload.now a.slot0.now a.near.now a.far.now a.x
     l.look.result k.keep.result k.keep.ensures.0 (room e) _ _ _ k.keep.ensures.1 p.put-payloads.ensures
     o.put-slots0.ensures)
 
-pub take-two-spec : {M : Type 1} → statement M
-take-two-spec =
+pub take_two_spec : {M : Type 1} → statement M
+take_two_spec =
     tie.close
     (tie.spec
-    look-requires
+    look_requires
     (λ c. omega (arith, few c))
     (λ c κs. omega (arith, few c))
     (search rules)
     returns
-    put-payloads-requires
-    put-slots0-requires
-    keep-requires
+    put_payloads_requires
+    put_slots0_requires
+    keep_requires
     (search rules)
     (search rules)
     (search rules)
-    returns-2)
+    returns_2)

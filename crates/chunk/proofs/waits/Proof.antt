@@ -17,5 +17,5 @@ returns c =
       from = 0;
     }
 
-pub waits-spec : {M : Type 1} → statement M
-waits-spec = tie.close (tie.spec (search rules) (search rules) (search rules) returns)
+pub waits_spec : {M : Type 1} → statement M
+waits_spec = tie.close (tie.spec (search rules) (search rules) (search rules) returns)

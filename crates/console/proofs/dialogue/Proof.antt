@@ -4,15 +4,15 @@ use borrow.Author.Rules.{rules}
 use Rattle.console.proofs.dialogue.Statement.{statement}
 use Rattle.console.proofs.dialogue.Tie as tie
 
-abbrev invariant-loop : tie.invariant-loop
-invariant-loop fd name state₀ -line₀ state -line = Unit {0}
+abbrev invariant_loop : tie.invariant_loop
+invariant_loop fd name state₀ -line₀ state -line = Unit {0}
 
-abbrev decreases-loop : tie.decreases-loop
-decreases-loop fd name state₀ -line₀ state -line = 2 ^ 64 - -line
+abbrev decreases_loop : tie.decreases_loop
+decreases_loop fd name state₀ -line₀ state -line = 2 ^ 64 - -line
 
-pub dialogue-spec : {M : Type 1} → statement M
-dialogue-spec =
+pub dialogue_spec : {M : Type 1} → statement M
+dialogue_spec =
     tie.close
-    (tie.spec invariant-loop decreases-loop
+    (tie.spec invariant_loop decreases_loop
     (search rules) (search rules) (search rules) (search rules) (search rules) (search rules) (search rules)
     (search rules))

@@ -8,27 +8,27 @@ use lib.ListN.{length, length-set, length-take}
 use Rattle.console.proofs.read_line.Statement.{statement}
 use Rattle.console.proofs.read_line.Tie as tie
 
-abbrev invariant-loop : tie.invariant-loop
-invariant-loop fd name line₀ n₀ -octet₀ line n -octet = (n ≤ length line) × (length line ≡ length line₀)
+abbrev invariant_loop : tie.invariant_loop
+invariant_loop fd name line₀ n₀ -octet₀ line n -octet = (n ≤ length line) × (length line ≡ length line₀)
 
-abbrev decreases-loop : tie.decreases-loop
-decreases-loop fd name line₀ n₀ -octet₀ line n -octet = 2 ^ 64 - -octet
+abbrev decreases_loop : tie.decreases_loop
+decreases_loop fd name line₀ n₀ -octet₀ line n -octet = 2 ^ 64 - -octet
 
-loop-again : tie.Need-loop-preserved invariant-loop decreases-loop
-loop-again c =
+loop_again : tie.Need-loop-preserved invariant_loop decreases_loop
+loop_again c =
     ⊎_elim
     (λ w. omega (arith, simp length-set at (ap length w.1)))
     (λ w. omega (arith, ap length w.1))
     c.if2.branch
 
-pub read-line-spec : {M : Type 1} → statement M
-read-line-spec =
+pub read_line_spec : {M : Type 1} → statement M
+read_line_spec =
     tie.close
-    (tie.spec invariant-loop decreases-loop
+    (tie.spec invariant_loop decreases_loop
     (search rules) (search rules) (search rules) (search rules) (search rules)
     (λ c. simp length-take (omega arith))
     (search rules) (search rules) (search rules) (search rules)
-    loop-again
+    loop_again
     (search rules)
     (λ c. simp length-take (omega arith))
     (search rules)

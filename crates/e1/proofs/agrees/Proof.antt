@@ -9,7 +9,7 @@ returns : tie.Need-returns
 unfolding agrees
 returns c = rw (c.before.block-check.ensures.0, c.carried2.ensures) refl
 
-pub agrees-spec : {M : Type 1} → statement M
-agrees-spec =
+pub agrees_spec : {M : Type 1} → statement M
+agrees_spec =
     tie.close
     (tie.spec (search rules) (λ c κs. (search rules, c.carried.ensures, c.before.before.requires.1)) (search rules) (search rules) returns)

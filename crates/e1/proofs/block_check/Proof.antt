@@ -1,7 +1,7 @@
 -- `block_check` meets its contract: all bits but the last octet, this octet, the zeros behind it.
 use mathlib.Core.Path.{◌∙◌}
 use borrow.Author.Rules.{rules}
-use Rattle.e1.proofs.Checked.{last-octet, block_closed}
+use Rattle.e1.proofs.Checked.{last_octet, block_closed}
 use Rattle.e1.proofs.block_check.Statement.{statement}
 use Rattle.e1.proofs.block_check.Tie as tie
 
@@ -14,12 +14,12 @@ returns c =
     let start = rows.before.before in
     let a = start.args in
     let e = o.after-octet.ensures.0
-    ∙ last-octet a.s.now a.q rows.after-rows.result last.octet.result bits.spaced.result a.c
+    ∙ last_octet a.s.now a.q rows.after-rows.result last.octet.result bits.spaced.result a.c
     rows.after-rows.ensures.0 last.octet.ensures bits.spaced.ensures start.requires.1 in
     (c.after-zeros.ensures.0 ∙ block_closed a.s.now a.q o.after-octet.result e, c.after-zeros.ensures.1)
 
-pub block-check-spec : {M : Type 1} → statement M
-block-check-spec =
+pub block_check_spec : {M : Type 1} → statement M
+block_check_spec =
     tie.close
     (tie.spec
     (λ c κs. (search rules, c.before.requires.2))

@@ -6,20 +6,20 @@ use borrow.Author.Rules.{rules}
 use lib.Bits.{bit_and, and_le_r}
 use Rattle.line.specs.Bit.{bit_at}
 use Rattle.line.proofs.BitLaws.{place_in}
-use Rattle.e1.proofs.Laws.{carried-four}
+use Rattle.e1.proofs.Laws.{carried_four}
 use Rattle.e1.proofs.carried.Statement.{statement}
 use Rattle.e1.proofs.carried.Tie as tie
 
 returns : tie.Need-returns
 returns c =
     let a = c.before.before.before.before.before.args in
-    let bit-at : (k : ℕ) → bit_at a.s.now (8 * (a.q / 8 + 64 * k) + bit_and a.q 7) ≡ bit_at a.s.now (a.q + 512 * k)
+    let bit_at_lem : (k : ℕ) → bit_at a.s.now (8 * (a.q / 8 + 64 * k) + bit_and a.q 7) ≡ bit_at a.s.now (a.q + 512 * k)
     = λ k. (let e : 8 * (a.q / 8 + 64 * k) + bit_and a.q 7 ≡ a.q + 512 * k = omega (arith, place_in a.q) in ap (bit_at a.s.now) e) in
     let first : bit_at a.s.now (8 * (a.q / 8) + bit_and a.q 7) ≡ bit_at a.s.now a.q = ap (bit_at a.s.now) (place_in a.q) in
-    omega (arith, carried-four a.s.now a.q, first, bit-at 1, bit-at 2, bit-at 3)
+    omega (arith, carried_four a.s.now a.q, first, bit_at_lem 1, bit_at_lem 2, bit_at_lem 3)
 
-pub carried-spec : {M : Type 1} → statement M
-carried-spec =
+pub carried_spec : {M : Type 1} → statement M
+carried_spec =
     tie.close
     (tie.spec
     (λ c κs. (omega arith, omega (arith, and_le_r c.before.args.q 7))) (search rules)

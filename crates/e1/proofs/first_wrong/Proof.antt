@@ -3,5 +3,5 @@ use borrow.Author.Rules.{rules}
 use Rattle.e1.proofs.first_wrong.Statement.{statement}
 use Rattle.e1.proofs.first_wrong.Tie as tie
 
-pub first-wrong-spec : {M : Type 1} → statement M
-first-wrong-spec = tie.close (tie.spec (search rules) (search rules) (search rules) (λ c. c.zeros-before.ensures.0))
+pub first_wrong_spec : {M : Type 1} → statement M
+first_wrong_spec = tie.close (tie.spec (search rules) (search rules) (search rules) (λ c. c.zeros-before.ensures.0))

@@ -4,6 +4,6 @@ use Rattle.e1.specs.Payload.{sized}
 use Rattle.e1.proofs.is_sized.Statement.{statement}
 use Rattle.e1.proofs.is_sized.Tie as tie
 
-pub is-sized-spec : {M : Type 1} → statement M
+pub is_sized_spec : {M : Type 1} → statement M
 unfolding sized
-is-sized-spec = tie.close (tie.spec (λ c. refl))
+is_sized_spec = tie.close (tie.spec (λ c. refl))

@@ -4,16 +4,16 @@ use mathlib.Core.Path.{ap, ◌∙◌}
 use borrow.Author.Rules.{rules}
 use lib.Bits.{bit_xor}
 use lib.Count.{count_leading_zeros, leading_le}
-use Rattle.e1.proofs.WordLaws.{first-zeros}
+use Rattle.e1.proofs.WordLaws.{first_zeros}
 use Rattle.e1.proofs.zeros_before.Statement.{statement}
 use Rattle.e1.proofs.zeros_before.Tie as tie
 
 returns : tie.Need-returns
 returns c =
     let a = c.before.before.args in (
-      ap (λ w. a.q + count_leading_zeros 8 (bit_xor w 27)) c.word.ensures ∙ first-zeros a.s.now a.q,
+      ap (λ w. a.q + count_leading_zeros 8 (bit_xor w 27)) c.word.ensures ∙ first_zeros a.s.now a.q,
       leading_le 8 (bit_xor c.word.result 27),
     )
 
-pub zeros-before-spec : {M : Type 1} → statement M
-zeros-before-spec = tie.close (tie.spec (search rules) returns)
+pub zeros_before_spec : {M : Type 1} → statement M
+zeros_before_spec = tie.close (tie.spec (search rules) returns)

@@ -14,5 +14,5 @@ returns c =
     (λ w. ap (λ s. accept s 0) w.1 ∙ rw w.0.left)
     c.before.if1.branch
 
-pub boundary-spec : {M : Type 1} → statement M
-boundary-spec = tie.close (tie.spec (search rules) returns)
+pub boundary_spec : {M : Type 1} → statement M
+boundary_spec = tie.close (tie.spec (search rules) returns)

@@ -3,20 +3,20 @@ use Prim.Native.Nat.{◌≤◌, ◌-◌}
 use mathlib.Core.Path.{◌≡◌, refl}
 use native.Mathlib.Omega.{arith}
 use lib.ListN.{length, take, length-set}
-use Rattle.base.specs.Tab.{tabFrom, tab}
-use Rattle.base.proofs.TabLaws.{fill_more, tab-fill}
+use Rattle.base.specs.Tab.{tab_from, tab}
+use Rattle.base.proofs.TabLaws.{fill_more, tab_fill}
 use Rattle.exchange.specs.Mapping.{entry_at}
 use Rattle.exchange.proofs.entries.Statement.{statement}
 use Rattle.exchange.proofs.entries.Tie as tie
 
-abbrev invariant-loop : tie.invariant-loop
-invariant-loop map entries₀ j₀ entries j = (j ≤ 32) × (length entries ≡ 32) × (take j entries ≡ tab j (entry_at map))
+abbrev invariant_loop : tie.invariant_loop
+invariant_loop map entries₀ j₀ entries j = (j ≤ 32) × (length entries ≡ 32) × (take j entries ≡ tab j (entry_at map))
 
-abbrev decreases-loop : tie.decreases-loop
-decreases-loop map entries₀ j₀ entries j = 32 - j
+abbrev decreases_loop : tie.decreases_loop
+decreases_loop map entries₀ j₀ entries j = 32 - j
 
-loop-again : tie.Need-loop-preserved invariant-loop decreases-loop
-loop-again c =
+loop_again : tie.Need-loop-preserved invariant_loop decreases_loop
+loop_again c =
     let l = c.before.before.before.loop in
     let map = c.before.before.before.before.args.map.now in (
       omega arith,
@@ -24,22 +24,22 @@ loop-again c =
       rw c.used.ensures (fill_more l.entries l.j (entry_at map) (omega arith) l.invariant.2),
     )
 
-returns : tie.Need-returns invariant-loop decreases-loop
+returns : tie.Need-returns invariant_loop decreases_loop
 returns c =
     let l = c.before.loop in
     let e : l.j ≡ 32 = omega arith in
-    tab-fill l.entries 32 (entry_at c.before.before.args.map.now) (omega arith) (rw e at l.invariant.2)
+    tab_fill l.entries 32 (entry_at c.before.before.args.map.now) (omega arith) (rw e at l.invariant.2)
 
-pub entries-spec : {M : Type 1} → statement M
-unfolding tabFrom
-entries-spec =
+pub entries_spec : {M : Type 1} → statement M
+unfolding tab_from
+entries_spec =
     tie.close
-    (tie.spec invariant-loop decreases-loop
+    (tie.spec invariant_loop decreases_loop
     (λ c. (omega arith, refl, refl))
     (omega arith)
     (omega arith)
     (omega arith)
     (omega arith)
     (omega arith)
-    loop-again
+    loop_again
     returns)

@@ -1,26 +1,26 @@
 -- `host` meets its contract: refused by its number, or accepted with what it leaves and reads.
 use mathlib.Core.Path.{ap, ap₂, sym, ◌∙◌}
 use borrow.Author.Rules.{rules}
-use Rattle.exchange.specs.Machine.{accept, refuse, hostRefusal}
-use Rattle.base.proofs.AnswerLaws.{accepted-so, accepted-not}
+use Rattle.exchange.specs.Machine.{accept, refuse, host_refusal}
+use Rattle.base.proofs.AnswerLaws.{accepted_so, accepted_not}
 use Rattle.exchange.proofs.host.Statement.{statement}
 use Rattle.exchange.proofs.host.Tie as tie
 
 returns : tie.Need-returns
 returns c =
     let a = c.before.before.before.before.args in
-    let n = hostRefusal a.state a.octets.now in
+    let n = host_refusal a.state a.octets.now in
     let e = c.before.before.host-refusal.ensures in
-    rw (c.refused.ensures, accepted-not n _ _ (λ z. c.before.if1.true (e ∙ z))) (ap (refuse a.state) e)
+    rw (c.refused.ensures, accepted_not n _ _ (λ z. c.before.if1.true (e ∙ z))) (ap (refuse a.state) e)
 
-returns-2 : tie.Need-returns-2
-returns-2 c =
+returns_2 : tie.Need-returns-2
+returns_2 c =
     let d = c.before.before.before in
     let a = d.before.before.before.args in
     c.accepted.ensures
     ∙ ap₂ accept c.before.before.host-after.ensures c.before.host-entry.ensures
-    ∙ sym (accepted-so (hostRefusal a.state a.octets.now) _ _ (sym d.before.host-refusal.ensures ∙ d.if1.false))
+    ∙ sym (accepted_so (host_refusal a.state a.octets.now) _ _ (sym d.before.host-refusal.ensures ∙ d.if1.false))
 
-pub host-spec : {M : Type 1} → statement M
-host-spec =
-    tie.close (tie.spec (search rules) (search rules) returns (search rules) (search rules) (search rules) returns-2)
+pub host_spec : {M : Type 1} → statement M
+host_spec =
+    tie.close (tie.spec (search rules) (search rules) returns (search rules) (search rules) (search rules) returns_2)

@@ -4,24 +4,24 @@ use mathlib.Core.Path.{refl, ◌∙◌}
 use native.Mathlib.Omega.{arith}
 use borrow.Author.Rules.{rules}
 use borrow.Author.Tests.{eq-eqb, ne_eqb}
-use Rattle.exchange.specs.Machine.{aOf, hostAfter}
-use Rattle.exchange.proofs.Laws.{accepted-passed, slot-named}
+use Rattle.exchange.specs.Machine.{a_of, host_after}
+use Rattle.exchange.proofs.Laws.{accepted_passed, slot_named}
 use Rattle.exchange.proofs.host_after.Statement.{statement}
 use Rattle.exchange.proofs.host_after.Tie as tie
 
 slot : (c : tie.Then1)
-    → (1 ≤ aOf c.before.before.before.args.octets.now) × (aOf c.before.before.before.args.octets.now ≤ 31)
-slot c = slot-named _ _ c.before.before.before.requires (rw (eq-eqb _ _ c.if1.true))
+    → (1 ≤ a_of c.before.before.before.args.octets.now) × (a_of c.before.before.before.args.octets.now ≤ 31)
+slot c = slot_named _ _ c.before.before.before.requires (rw (eq-eqb _ _ c.if1.true))
 
-pub host-after-spec : {M : Type 1} → statement M
-unfolding hostAfter
-host-after-spec =
+pub host_after_spec : {M : Type 1} → statement M
+unfolding host_after
+host_after_spec =
     tie.close
     (tie.spec
-    (λ c. let f = (accepted-passed _ _ c.before.before.requires).four in search rules)
-    (λ c. let f = (accepted-passed _ _ c.before.before.before.before.requires).four in search rules)
+    (λ c. let f = (accepted_passed _ _ c.before.before.requires).four in search rules)
+    (λ c. let f = (accepted_passed _ _ c.before.before.before.before.requires).four in search rules)
     (λ c. omega (arith, slot c.before))
-    (λ c. let f = (accepted-passed _ _ c.before.before.before.before.before.requires).four in search rules)
+    (λ c. let f = (accepted_passed _ _ c.before.before.before.before.before.requires).four in search rules)
     (λ c κs. omega (arith, slot c.before.before))
     (λ c. c.stage.ensures ∙ rw (eq-eqb _ _ c.before.before.before.if1.true) refl)
     (search rules)

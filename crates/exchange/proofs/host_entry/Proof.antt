@@ -4,22 +4,22 @@ use mathlib.Core.Path.{◌∙◌}
 use native.Mathlib.Omega.{arith}
 use borrow.Author.Rules.{rules}
 use borrow.Author.Tests.{eq-eqb, ne_eqb}
-use Rattle.exchange.specs.Machine.{aOf, hostEntry}
-use Rattle.exchange.proofs.Laws.{accepted-passed, slot-named}
+use Rattle.exchange.specs.Machine.{a_of, host_entry}
+use Rattle.exchange.proofs.Laws.{accepted_passed, slot_named}
 use Rattle.exchange.proofs.host_entry.Statement.{statement}
 use Rattle.exchange.proofs.host_entry.Tie as tie
 
 slot : (c : tie.Then1)
-    → (1 ≤ aOf c.before.before.before.args.octets.now) × (aOf c.before.before.before.args.octets.now ≤ 31)
-slot c = slot-named _ _ c.before.before.before.requires (rw c.if1.true)
+    → (1 ≤ a_of c.before.before.before.args.octets.now) × (a_of c.before.before.before.args.octets.now ≤ 31)
+slot c = slot_named _ _ c.before.before.before.requires (rw c.if1.true)
 
-pub host-entry-spec : {M : Type 1} → statement M
-unfolding hostEntry
-host-entry-spec =
+pub host_entry_spec : {M : Type 1} → statement M
+unfolding host_entry
+host_entry_spec =
     tie.close
     (tie.spec
-    (λ c. let f = (accepted-passed _ _ c.before.before.requires).four in search rules)
-    (λ c. let f = (accepted-passed _ _ c.before.before.before.before.requires).four in search rules)
+    (λ c. let f = (accepted_passed _ _ c.before.before.requires).four in search rules)
+    (λ c. let f = (accepted_passed _ _ c.before.before.before.before.requires).four in search rules)
     (λ c. omega (arith, slot c.before))
     (λ c. omega (arith, slot c.before))
     (search rules)

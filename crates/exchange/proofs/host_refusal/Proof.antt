@@ -5,7 +5,7 @@ use borrow.Author.Rules.{rules}
 use borrow.Author.Tests.{eq-eqb, ne_eqb, not-true, not-false}
 use lib.Dec.{eqb}
 use lib.ListN.{length}
-use Rattle.exchange.specs.Machine.{kind_of, aOf, bOf, between, outside, locked, hostRefusal}
+use Rattle.exchange.specs.Machine.{kind_of, a_of, b_of, between, outside, locked, host_refusal}
 use Rattle.exchange.proofs.host_refusal.Statement.{statement}
 use Rattle.exchange.proofs.host_refusal.Tie as tie
 
@@ -26,7 +26,7 @@ known : (c : tie.Else2) → between 1 (kind_of (one c).before.before.args.octets
 known c = sym c.before.is-between.ensures ∙ not-false _ c.if2.false
 
 inside : (c : tie.Else3)
-    → let r = (one (two c)).before.before.args.octets.now in outside (kind_of r) (aOf r) (bOf r) ≡ false
+    → let r = (one (two c)).before.before.args.octets.now in outside (kind_of r) (a_of r) (b_of r) ≡ false
 inside c = sym c.before.is-outside.ensures ∙ c.if3.false
 
 unlocked : (c : tie.Else4)
@@ -34,45 +34,45 @@ unlocked : (c : tie.Else4)
 unlocked c = sym c.before.is-locked.ensures ∙ c.if4.false
 
 returns : tie.Need-returns
-unfolding hostRefusal
+unfolding host_refusal
 returns c = rw (ne_eqb _ _ c.if1.true)
 
-returns-2 : tie.Need-returns-2
-unfolding hostRefusal
-returns-2 c = rw (four c.before.before.before, sym c.before.is-between.ensures ∙ not-true _ c.if2.true)
+returns_2 : tie.Need-returns-2
+unfolding host_refusal
+returns_2 c = rw (four c.before.before.before, sym c.before.is-between.ensures ∙ not-true _ c.if2.true)
 
-returns-3 : tie.Need-returns-3
-unfolding hostRefusal
-returns-3 c =
+returns_3 : tie.Need-returns-3
+unfolding host_refusal
+returns_3 c =
     let d = c.before.before.before.before in
     rw (four (one d), known d, sym c.before.is-outside.ensures ∙ c.if3.true)
 
-returns-4 : tie.Need-returns-4
-unfolding hostRefusal
-returns-4 c =
+returns_4 : tie.Need-returns-4
+unfolding host_refusal
+returns_4 c =
     let d = c.before.before in
     rw (four (one (two d)), known (two d), inside d, sym c.before.is-locked.ensures ∙ c.if4.true)
 
-returns-5 : tie.Need-returns-5
-unfolding hostRefusal
-returns-5 c =
+returns_5 : tie.Need-returns-5
+unfolding host_refusal
+returns_5 c =
     let d = c.before.before in
     let b = two (three d) in
     let e : c.before.is-unstaged.result ≡ true = c.if5.true in
     rw (four (one b), known b, inside (three d), unlocked d, sym c.before.is-unstaged.ensures ∙ e)
 
-returns-6 : tie.Need-returns-6
-unfolding hostRefusal
-returns-6 c =
+returns_6 : tie.Need-returns-6
+unfolding host_refusal
+returns_6 c =
     let d = c.before.before in
     let b = two (three d) in
     rw (four (one b), known b, inside (three d), unlocked d, sym c.before.is-unstaged.ensures ∙ c.if5.false)
 
-pub host-refusal-spec : {M : Type 1} → statement M
-host-refusal-spec =
+pub host_refusal_spec : {M : Type 1} → statement M
+host_refusal_spec =
     tie.close
     (tie.spec returns
-    (search rules) (search rules) returns-2
-    (search rules) (search rules) (search rules) returns-3
-    (search rules) returns-4
-    (search rules) returns-5 returns-6)
+    (search rules) (search rules) returns_2
+    (search rules) (search rules) (search rules) returns_3
+    (search rules) returns_4
+    (search rules) returns_5 returns_6)

@@ -4,6 +4,6 @@ use Rattle.exchange.specs.Machine.{between}
 use Rattle.exchange.proofs.is_between.Statement.{statement}
 use Rattle.exchange.proofs.is_between.Tie as tie
 
-pub is-between-spec : {M : Type 1} → statement M
+pub is_between_spec : {M : Type 1} → statement M
 unfolding between
-is-between-spec = tie.close (tie.spec (λ c. refl))
+is_between_spec = tie.close (tie.spec (λ c. refl))

@@ -4,6 +4,6 @@ use Rattle.exchange.specs.Machine.{locked}
 use Rattle.exchange.proofs.is_locked.Statement.{statement}
 use Rattle.exchange.proofs.is_locked.Tie as tie
 
-pub is-locked-spec : {M : Type 1} → statement M
+pub is_locked_spec : {M : Type 1} → statement M
 unfolding locked
-is-locked-spec = tie.close (tie.spec (λ c. refl))
+is_locked_spec = tie.close (tie.spec (λ c. refl))

@@ -5,6 +5,6 @@ use Rattle.exchange.specs.Machine.{outside}
 use Rattle.exchange.proofs.is_outside.Statement.{statement}
 use Rattle.exchange.proofs.is_outside.Tie as tie
 
-pub is-outside-spec : {M : Type 1} → statement M
+pub is_outside_spec : {M : Type 1} → statement M
 unfolding outside
-is-outside-spec = tie.close (tie.spec (search rules) (λ c. rw c.is-between.ensures refl))
+is_outside_spec = tie.close (tie.spec (search rules) (λ c. rw c.is-between.ensures refl))

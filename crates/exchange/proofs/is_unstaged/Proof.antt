@@ -4,6 +4,6 @@ use Rattle.exchange.specs.Machine.{unstaged}
 use Rattle.exchange.proofs.is_unstaged.Statement.{statement}
 use Rattle.exchange.proofs.is_unstaged.Tie as tie
 
-pub is-unstaged-spec : {M : Type 1} → statement M
+pub is_unstaged_spec : {M : Type 1} → statement M
 unfolding unstaged
-is-unstaged-spec = tie.close (tie.spec (λ c. refl))
+is_unstaged_spec = tie.close (tie.spec (λ c. refl))

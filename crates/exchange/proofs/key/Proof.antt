@@ -1,25 +1,25 @@
 -- `key` meets its contract: to 1, to 0, and anywhere else.
 use mathlib.Core.Path.{refl}
 use borrow.Author.Rules.{rules}
-use Rattle.exchange.proofs.Laws.{key-to-1, key-to-0, key-elsewhere}
+use Rattle.exchange.proofs.Laws.{key_to_1, key_to_0, key_elsewhere}
 use Rattle.exchange.proofs.key.Statement.{statement}
 use Rattle.exchange.proofs.key.Tie as tie
 
 returns : tie.Need-returns
 returns c =
     let a = c.before.before.args in
-    rw (c.accepted.ensures, key-to-1 a.state a.position c.before.if1.true) refl
+    rw (c.accepted.ensures, key_to_1 a.state a.position c.before.if1.true) refl
 
-returns-2 : tie.Need-returns-2
-returns-2 c =
+returns_2 : tie.Need-returns-2
+returns_2 c =
     let a = c.before.before.before.args in
-    rw (c.accepted2.ensures, key-to-0 a.state a.position c.before.if2.true) refl
+    rw (c.accepted2.ensures, key_to_0 a.state a.position c.before.if2.true) refl
 
-returns-3 : tie.Need-returns-3
-returns-3 c =
+returns_3 : tie.Need-returns-3
+returns_3 c =
     let d = c.before.before in
     let a = d.before.args in
-    rw (c.refused.ensures, key-elsewhere a.state a.position d.if1.false c.before.if2.false) refl
+    rw (c.refused.ensures, key_elsewhere a.state a.position d.if1.false c.before.if2.false) refl
 
 pub key_spec : {M : Type 1} → statement M
-key_spec = tie.close (tie.spec (search rules) returns (search rules) returns-2 (search rules) returns-3)
+key_spec = tie.close (tie.spec (search rules) returns (search rules) returns_2 (search rules) returns_3)

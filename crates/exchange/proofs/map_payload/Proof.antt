@@ -8,51 +8,51 @@ use borrow.Author.Rules.{rules}
 use borrow.Author.Tests.{lt-ltb, le-ltb, not-true, not-false}
 use lib.ListN.{length, take, drop}
 use Rattle.base.proofs.PartLaws.{part_length}
-use Rattle.exchange.specs.Mapping.{mapRefusal}
-use Rattle.exchange.proofs.Parts.{entries-small, entries-same, done, done_none, done_more, done-length, refused}
-use Rattle.exchange.proofs.Parts.{all_done, whole-frames}
+use Rattle.exchange.specs.Mapping.{map_refusal}
+use Rattle.exchange.proofs.Parts.{entries_small, entries_same, done, done_none, done_more, done_length, refused}
+use Rattle.exchange.proofs.Parts.{all_done, whole_frames}
 use Rattle.exchange.proofs.map_payload.Statement.{statement}
 use Rattle.exchange.proofs.map_payload.Tie as tie
 
-abbrev invariant-loop : tie.invariant-loop
-invariant-loop payload out₀ n map f₀ f-end out f = (f ≤ f-end) × (length out ≡ length out₀) × (out ≡ done map payload out₀ f)
+abbrev invariant_loop : tie.invariant_loop
+invariant_loop payload out₀ n map f₀ f-end out f = (f ≤ f-end) × (length out ≡ length out₀) × (out ≡ done map payload out₀ f)
 
-abbrev decreases-loop : tie.decreases-loop
-decreases-loop payload out₀ n map f₀ f-end out f = f-end - f
+abbrev decreases_loop : tie.decreases_loop
+decreases_loop payload out₀ n map f₀ f-end out f = f-end - f
 
-returns : tie.Need-returns invariant-loop decreases-loop
-unfolding mapRefusal
+returns : tie.Need-returns invariant_loop decreases_loop
+unfolding map_refusal
 returns c =
     let a = c.before.before.before.before.args in
     let e = sym c.before.is-sized.ensures ∙ not-true _ c.if1.true in
     refused a.state.live a.payload.now a.out.now 5 (λ z. omega arith) (rw e)
 
-returns-2 : tie.Need-returns-2 invariant-loop decreases-loop
-unfolding mapRefusal
-returns-2 c =
+returns_2 : tie.Need-returns-2 invariant_loop decreases_loop
+unfolding map_refusal
+returns_2 c =
     let a = c.before.before.before.before.before.args in
     let e = sym c.before.before.is-sized.ensures ∙ not-false _ c.before.if1.false in
     refused a.state.live a.payload.now a.out.now 4 (λ z. omega arith) (rw (e, lt-ltb _ _ c.if2.true))
 
-loop-holds : tie.Need-loop-init invariant-loop decreases-loop
-loop-holds c =
+loop_holds : tie.Need-loop-init invariant_loop decreases_loop
+loop_holds c =
     let a = c.before.before.before.before.before.before.before.before.args in
     (omega arith, refl, done_none c.entries.result a.payload.now a.out.now)
 
-map-frame-requires : tie.Need-map-frame-requires invariant-loop decreases-loop
-map-frame-requires c κs =
+map_frame_requires : tie.Need-map-frame-requires invariant_loop decreases_loop
+map_frame_requires c κs =
     let l = c.before.before.before.before in
     let w = l.before in
     let a = w.before.before.before.before.before.before.before.before.args in
     let i = 31 * l.loop.f in
     let n : i + 31 - i ≡ 31 = omega arith in (
-      entries-small a.state.live w.entries.result w.entries.ensures,
+      entries_small a.state.live w.entries.result w.entries.ensures,
       part_length i (i + 31) a.payload.now (omega arith) ∙ n,
       part_length i (i + 31) l.loop.out (omega arith) ∙ n,
     )
 
-loop-again : tie.Need-loop-preserved invariant-loop decreases-loop
-loop-again c =
+loop_again : tie.Need-loop-preserved invariant_loop decreases_loop
+loop_again c =
     let l = c.before.before.before.before.before.before.before in
     let w = l.before in
     let a = w.before.before.before.before.before.before.before.before.args in
@@ -61,11 +61,11 @@ loop-again c =
     let d = a.out.now in
     let f = l.loop.f in
     let t = done_more m p d f (omega arith) l.loop.out _ l.loop.invariant.2 c.before.before.map_frame.ensures in
-    (omega arith, ap length t ∙ done-length m p d (f + 1) (omega arith) (omega arith), t)
+    (omega arith, ap length t ∙ done_length m p d (f + 1) (omega arith) (omega arith), t)
 
-returns-3 : tie.Need-returns-3 invariant-loop decreases-loop
-unfolding mapRefusal
-returns-3 c =
+returns_3 : tie.Need-returns-3 invariant_loop decreases_loop
+unfolding map_refusal
+returns_3 c =
     let l = c.before.loop in
     let w = c.before.before.entries in
     let b = c.before.before.before.before.before in
@@ -73,17 +73,17 @@ returns-3 c =
     let p = a.payload.now in
     let d = a.out.now in
     let e = sym b.before.before.is-sized.ensures ∙ not-false _ b.before.if1.false in
-    let n = whole-frames (length p) e in
-    let u = ap (λ x. x ++ drop (31 * l.f) d) (entries-same a.state.live w.result (take (31 * l.f) p) w.ensures) in
+    let n = whole_frames (length p) e in
+    let u = ap (λ x. x ++ drop (31 * l.f) d) (entries_same a.state.live w.result (take (31 * l.f) p) w.ensures) in
     all_done a.state.live p d l.out l.f (omega arith) (l.invariant.2 ∙ u) (rw (e, le-ltb _ _ b.if2.false))
 
-pub map-payload-spec : {M : Type 1} → statement M
-map-payload-spec =
+pub map_payload_spec : {M : Type 1} → statement M
+map_payload_spec =
     tie.close
-    (tie.spec invariant-loop decreases-loop
-    (search rules) returns returns-2 (search rules) loop-holds
+    (tie.spec invariant_loop decreases_loop
+    (search rules) returns returns_2 (search rules) loop_holds
     (omega arith) (omega arith) (omega arith) (omega arith) (omega arith)
     (omega arith) (omega arith) (omega arith) (omega arith)
-    map-frame-requires
+    map_frame_requires
     (omega arith) (omega arith)
-    loop-again (search rules) returns-3)
+    loop_again (search rules) returns_3)

@@ -5,40 +5,40 @@ use mathlib.Core.List.{List, ◌∷◌}
 use native.Mathlib.Omega.{arith}
 use lib.ListN.{length, take, length-set}
 use Rattle.base.proofs.PartLaws.{copy_done}
-use Rattle.exchange.proofs.Parts.{slots-more}
+use Rattle.exchange.proofs.Parts.{slots_more}
 use Rattle.exchange.proofs.slots.Statement.{statement}
 use Rattle.exchange.proofs.slots.Tie as tie
 
-abbrev invariant-loop : tie.invariant-loop
-invariant-loop frame slots₀ j₀ slots j = (j ≤ 31) × (length slots ≡ 32) × (take (j + 1) slots ≡ take (j + 1) (255 ∷ frame))
+abbrev invariant_loop : tie.invariant_loop
+invariant_loop frame slots₀ j₀ slots j = (j ≤ 31) × (length slots ≡ 32) × (take (j + 1) slots ≡ take (j + 1) (255 ∷ frame))
 
-abbrev decreases-loop : tie.decreases-loop
-decreases-loop frame slots₀ j₀ slots j = 31 - j
+abbrev decreases_loop : tie.decreases_loop
+decreases_loop frame slots₀ j₀ slots j = 31 - j
 
-loop-again : tie.Need-loop-preserved invariant-loop decreases-loop
-loop-again c =
+loop_again : tie.Need-loop-preserved invariant_loop decreases_loop
+loop_again c =
     let l = c.before.before.loop in
     let frame = c.before.before.before.args.frame.now in (
       omega arith,
       simp length-set l.invariant.1,
-      slots-more frame l.slots l.j (omega arith) (omega arith) l.invariant.2,
+      slots_more frame l.slots l.j (omega arith) (omega arith) l.invariant.2,
     )
 
-returns : tie.Need-returns invariant-loop decreases-loop
+returns : tie.Need-returns invariant_loop decreases_loop
 returns c =
     let l = c.before.loop in
     let whole : List ℕ = 255 ∷ c.before.before.args.frame.now in
     copy_done l.slots whole (l.j + 1) (omega arith) (omega arith) l.invariant.2
 
-pub slots-spec : {M : Type 1} → statement M
-slots-spec =
+pub slots_spec : {M : Type 1} → statement M
+slots_spec =
     tie.close
-    (tie.spec invariant-loop decreases-loop
+    (tie.spec invariant_loop decreases_loop
     (λ c. (omega arith, refl, refl))
     (omega arith)
     (omega arith)
     (omega arith)
     (omega arith)
     (omega arith)
-    loop-again
+    loop_again
     returns)

@@ -3,6 +3,6 @@ use borrow.Author.Rules.{rules}
 use Rattle.exchange.proofs.stage.Statement.{statement}
 use Rattle.exchange.proofs.stage.Tie as tie
 
-pub stage-spec : {M : Type 1} → statement M
-stage-spec =
+pub stage_spec : {M : Type 1} → statement M
+stage_spec =
     tie.close (tie.spec (search rules) (λ c. rw c.if1.true) (search rules) (λ c. rw c.before.if1.false))

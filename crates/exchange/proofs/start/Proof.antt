@@ -3,37 +3,37 @@ use Prim.Native.Nat.{◌≤◌, ◌-◌}
 use mathlib.Core.Path.{◌≡◌, refl}
 use native.Mathlib.Omega.{arith}
 use lib.ListN.{length, take, length-set}
-use Rattle.base.specs.Tab.{tabFrom, tab}
-use Rattle.base.proofs.TabLaws.{fill_more, tab-fill}
+use Rattle.base.specs.Tab.{tab_from, tab}
+use Rattle.base.proofs.TabLaws.{fill_more, tab_fill}
 use Rattle.exchange.proofs.start.Statement.{statement}
 use Rattle.exchange.proofs.start.Tie as tie
 
-abbrev invariant-loop : tie.invariant-loop
-invariant-loop live₀ j₀ live j = (j ≤ 32) × (length live ≡ 32) × (take j live ≡ tab j (λ i. i))
+abbrev invariant_loop : tie.invariant_loop
+invariant_loop live₀ j₀ live j = (j ≤ 32) × (length live ≡ 32) × (take j live ≡ tab j (λ i. i))
 
-abbrev decreases-loop : tie.decreases-loop
-decreases-loop live₀ j₀ live j = 32 - j
+abbrev decreases_loop : tie.decreases_loop
+decreases_loop live₀ j₀ live j = 32 - j
 
-loop-again : tie.Need-loop-preserved invariant-loop decreases-loop
-loop-again c =
+loop_again : tie.Need-loop-preserved invariant_loop decreases_loop
+loop_again c =
     let l = c.before.loop in
     (omega arith, simp length-set l.invariant.1, fill_more l.live l.j (λ i. i) (omega arith) l.invariant.2)
 
-returns : tie.Need-returns invariant-loop decreases-loop
+returns : tie.Need-returns invariant_loop decreases_loop
 returns c =
     let l = c.before.loop in
     let e : l.j ≡ 32 = omega arith in
-    rw (tab-fill l.live 32 (λ i. i) (omega arith) (rw e at l.invariant.2))
+    rw (tab_fill l.live 32 (λ i. i) (omega arith) (rw e at l.invariant.2))
 
 pub start_spec : {M : Type 1} → statement M
-unfolding tabFrom
+unfolding tab_from
 start_spec =
     tie.close
-    (tie.spec invariant-loop decreases-loop
+    (tie.spec invariant_loop decreases_loop
     (λ c. (omega arith, refl, refl))
     (omega arith)
     (omega arith)
     (omega arith)
     (omega arith)
-    loop-again
+    loop_again
     returns)

@@ -4,8 +4,8 @@ use borrow.Author.Tests.{le-leb, lt-leb}
 use Rattle.exchange.proofs.used.Statement.{statement}
 use Rattle.exchange.proofs.used.Tie as tie
 
-pub used-spec : {M : Type 1} → statement M
-used-spec =
+pub used_spec : {M : Type 1} → statement M
+used_spec =
     tie.close
     (tie.spec
     (λ c. rw (le-leb c.before.args.entry 31 (omega (arith, c.if1.true))))

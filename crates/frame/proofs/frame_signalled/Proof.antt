@@ -5,8 +5,8 @@ use lib.ListN.{length-take}
 use Rattle.frame.proofs.frame_signalled.Statement.{statement}
 use Rattle.frame.proofs.frame_signalled.Tie as tie
 
-pub frame-signalled-spec : {M : Type 1} → statement M
-frame-signalled-spec =
+pub frame_signalled_spec : {M : Type 1} → statement M
+frame_signalled_spec =
     tie.close
     (tie.spec (search rules) (search rules) (search rules) (search rules) (search rules) (search rules) (search rules)
     (search rules)

@@ -4,14 +4,14 @@ use borrow.Author.Rules.{rules}
 use Rattle.given.proofs.bits.Statement.{statement}
 use Rattle.given.proofs.bits.Tie as tie
 
-abbrev invariant-loop : tie.invariant-loop
-invariant-loop octets₀ j₀ octets j = j ≤ 1440
+abbrev invariant_loop : tie.invariant_loop
+invariant_loop octets₀ j₀ octets j = j ≤ 1440
 
-abbrev decreases-loop : tie.decreases-loop
-decreases-loop octets₀ j₀ octets j = 1440 - j
+abbrev decreases_loop : tie.decreases_loop
+decreases_loop octets₀ j₀ octets j = 1440 - j
 
-pub bits-spec : {M : Type 1} → statement M
-bits-spec =
+pub bits_spec : {M : Type 1} → statement M
+bits_spec =
     tie.close
-    (tie.spec invariant-loop decreases-loop (search rules) (search rules) (search rules) (search rules) (search rules) (search rules)
+    (tie.spec invariant_loop decreases_loop (search rules) (search rules) (search rules) (search rules) (search rules) (search rules)
     (search rules) (search rules) (search rules) (search rules))

@@ -4,15 +4,15 @@ use borrow.Author.Rules.{rules}
 use Rattle.given.proofs.hit.Statement.{statement}
 use Rattle.given.proofs.hit.Tie as tie
 
-abbrev invariant-loop : tie.invariant-loop
-invariant-loop k row n octets₀ j₀ octets j = j ≤ n
+abbrev invariant_loop : tie.invariant_loop
+invariant_loop k row n octets₀ j₀ octets j = j ≤ n
 
-abbrev decreases-loop : tie.decreases-loop
-decreases-loop k row n octets₀ j₀ octets j = n - j
+abbrev decreases_loop : tie.decreases_loop
+decreases_loop k row n octets₀ j₀ octets j = n - j
 
-pub hit-spec : {M : Type 1} → statement M
-hit-spec =
+pub hit_spec : {M : Type 1} → statement M
+hit_spec =
     tie.close
-    (tie.spec invariant-loop decreases-loop
+    (tie.spec invariant_loop decreases_loop
     (search rules) (search rules) (search rules) (search rules) (search rules) (search rules)
     (search rules) (search rules) (search rules) (search rules) (search rules) (search rules))

@@ -4,14 +4,14 @@ use borrow.Author.Rules.{rules}
 use Rattle.given.proofs.overhead.Statement.{statement}
 use Rattle.given.proofs.overhead.Tie as tie
 
-abbrev invariant-loop : tie.invariant-loop
-invariant-loop octets₀ j₀ octets j = j ≤ 136
+abbrev invariant_loop : tie.invariant_loop
+invariant_loop octets₀ j₀ octets j = j ≤ 136
 
-abbrev decreases-loop : tie.decreases-loop
-decreases-loop octets₀ j₀ octets j = 136 - j
+abbrev decreases_loop : tie.decreases_loop
+decreases_loop octets₀ j₀ octets j = 136 - j
 
-pub overhead-spec : {M : Type 1} → statement M
-overhead-spec =
+pub overhead_spec : {M : Type 1} → statement M
+overhead_spec =
     tie.close
-    (tie.spec invariant-loop decreases-loop (search rules) (search rules) (search rules) (search rules) (search rules) (search rules)
+    (tie.spec invariant_loop decreases_loop (search rules) (search rules) (search rules) (search rules) (search rules) (search rules)
     (search rules) (search rules) (search rules) (search rules) (search rules))

@@ -4,14 +4,14 @@ use borrow.Author.Rules.{rules}
 use Rattle.given.proofs.payload.Statement.{statement}
 use Rattle.given.proofs.payload.Tie as tie
 
-abbrev invariant-loop : tie.invariant-loop
-invariant-loop octets₀ i₀ octets i = i ≤ 8432
+abbrev invariant_loop : tie.invariant_loop
+invariant_loop octets₀ i₀ octets i = i ≤ 8432
 
-abbrev decreases-loop : tie.decreases-loop
-decreases-loop octets₀ i₀ octets i = 8432 - i
+abbrev decreases_loop : tie.decreases_loop
+decreases_loop octets₀ i₀ octets i = 8432 - i
 
-pub payload-spec : {M : Type 1} → statement M
-payload-spec =
+pub payload_spec : {M : Type 1} → statement M
+payload_spec =
     tie.close
-    (tie.spec invariant-loop decreases-loop (search rules) (search rules) (search rules) (search rules) (search rules) (search rules)
+    (tie.spec invariant_loop decreases_loop (search rules) (search rules) (search rules) (search rules) (search rules) (search rules)
     (search rules) (search rules) (search rules) (search rules))

@@ -6,15 +6,15 @@ use lib.ListN.{length}
 use Rattle.given.proofs.put.Statement.{statement}
 use Rattle.given.proofs.put.Tie as tie
 
-abbrev invariant-loop : tie.invariant-loop
-invariant-loop octets₀ row n i₀ octets i = (i ≤ n + 1) × (length octets ≡ length octets₀)
+abbrev invariant_loop : tie.invariant_loop
+invariant_loop octets₀ row n i₀ octets i = (i ≤ n + 1) × (length octets ≡ length octets₀)
 
-abbrev decreases-loop : tie.decreases-loop
-decreases-loop octets₀ row n i₀ octets i = n + 1 - i
+abbrev decreases_loop : tie.decreases_loop
+decreases_loop octets₀ row n i₀ octets i = n + 1 - i
 
 pub put_spec : {M : Type 1} → statement M
 put_spec =
     tie.close
-    (tie.spec invariant-loop decreases-loop
+    (tie.spec invariant_loop decreases_loop
     (search rules) (search rules) (search rules) (search rules) (search rules) (search rules) (search rules)
     (search rules) (search rules) (search rules) (search rules))

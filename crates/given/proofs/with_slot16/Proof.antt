@@ -6,15 +6,15 @@ use lib.ListN.{length}
 use Rattle.given.proofs.with_slot16.Statement.{statement}
 use Rattle.given.proofs.with_slot16.Tie as tie
 
-abbrev invariant-loop : tie.invariant-loop
-invariant-loop row n octets₀ i₀ octets i = (i ≤ n + 1) × (length octets ≡ 8193)
+abbrev invariant_loop : tie.invariant_loop
+invariant_loop row n octets₀ i₀ octets i = (i ≤ n + 1) × (length octets ≡ 8193)
 
-abbrev decreases-loop : tie.decreases-loop
-decreases-loop row n octets₀ i₀ octets i = n + 1 - i
+abbrev decreases_loop : tie.decreases_loop
+decreases_loop row n octets₀ i₀ octets i = n + 1 - i
 
-pub with-slot16-spec : {M : Type 1} → statement M
-with-slot16-spec =
+pub with_slot16_spec : {M : Type 1} → statement M
+with_slot16_spec =
     tie.close
-    (tie.spec invariant-loop decreases-loop
+    (tie.spec invariant_loop decreases_loop
     (search rules) (search rules) (search rules) (search rules) (search rules) (search rules) (search rules)
     (search rules) (search rules) (search rules) (search rules) (search rules) (search rules) (search rules))

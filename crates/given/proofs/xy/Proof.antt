@@ -4,14 +4,14 @@ use borrow.Author.Rules.{rules}
 use Rattle.given.proofs.xy.Statement.{statement}
 use Rattle.given.proofs.xy.Tie as tie
 
-abbrev invariant-loop : tie.invariant-loop
-invariant-loop octets₀ m₀ octets m = m ≤ 17
+abbrev invariant_loop : tie.invariant_loop
+invariant_loop octets₀ m₀ octets m = m ≤ 17
 
-abbrev decreases-loop : tie.decreases-loop
-decreases-loop octets₀ m₀ octets m = 17 - m
+abbrev decreases_loop : tie.decreases_loop
+decreases_loop octets₀ m₀ octets m = 17 - m
 
-pub xy-spec : {M : Type 1} → statement M
-xy-spec =
+pub xy_spec : {M : Type 1} → statement M
+xy_spec =
     tie.close
-    (tie.spec invariant-loop decreases-loop (search rules) (search rules) (search rules) (search rules) (search rules) (search rules)
+    (tie.spec invariant_loop decreases_loop (search rules) (search rules) (search rules) (search rules) (search rules) (search rules)
     (search rules) (search rules) (search rules))

@@ -9,9 +9,9 @@ use Rattle.heard.proofs.channel.Tie as tie
 returns : tie.Need-returns
 returns c = let a = c.before.before.args in rw (le-leb a.c 15 c.if1.true, zero-add a.c)
 
-returns-2 : tie.Need-returns-2
-returns-2 c = let a = c.before.before.args in rw (lt-leb a.c 15 c.if1.false, zero-add (a.c - 15))
+returns_2 : tie.Need-returns-2
+returns_2 c = let a = c.before.before.args in rw (lt-leb a.c 15 c.if1.false, zero-add (a.c - 15))
 
-pub channel-spec : {M : Type 1} → statement M
-channel-spec =
-    tie.close (tie.spec (search rules) returns (search rules) (search rules) returns-2)
+pub channel_spec : {M : Type 1} → statement M
+channel_spec =
+    tie.close (tie.spec (search rules) returns (search rules) (search rules) returns_2)

@@ -5,8 +5,8 @@ use mathlib.Core.List.{List, [], ◌∷◌, ◌++◌}
 use native.Mathlib.Omega.{arith}
 use lib.ListN.{length, get_or, drop, set, replicate, length-drop}
 use lib.Seq.{get_or-drop, set_at, append_snoc}
-use Rattle.base.specs.Tab.{tabFrom, tab}
-use Rattle.base.proofs.TabLaws.{length-tab, tab-more, tab-of}
+use Rattle.base.specs.Tab.{tab_from, tab}
+use Rattle.base.proofs.TabLaws.{length_tab, tab_more, tab_of}
 use Rattle.heard.proofs.moved.Statement.{statement}
 use Rattle.heard.proofs.moved.Tie as tie
 
@@ -14,53 +14,53 @@ use Rattle.heard.proofs.moved.Tie as tie
 abbrev moving : List ℕ → ℕ → ℕ → List ℕ
 moving row octet i = tab i (λ j. get_or row (j + 1) 0) ++ replicate (16 - i) octet
 
-one-moved : (row : List ℕ) (octet i : ℕ) → i ≤ 14 → set (moving row octet i) i (get_or row (i + 1) 0) ≡ moving row octet (i + 1)
-one-moved row octet i l =
+one_moved : (row : List ℕ) (octet i : ℕ) → i ≤ 14 → set (moving row octet i) i (get_or row (i + 1) 0) ≡ moving row octet (i + 1)
+one_moved row octet i l =
     let f : ℕ → ℕ = λ j. get_or row (j + 1) 0 in
     let k : 16 - i ≡ suc (16 - (i + 1)) = omega arith in
     let rest = replicate (16 - (i + 1)) octet in
     ap (λ k. set (tab i f ++ replicate k octet) i (f i)) k
-    ∙ set_at (tab i f) octet rest (f i) i (length-tab i f)
+    ∙ set_at (tab i f) octet rest (f i) i (length_tab i f)
     ∙ sym (append_snoc (tab i f) (f i) rest)
-    ∙ ap (λ l. l ++ rest) (sym (tab-more i f))
+    ∙ ap (λ l. l ++ rest) (sym (tab_more i f))
 
 all_moved : (row : List ℕ) (octet : ℕ) → length row ≡ 16 → moving row octet 15 ≡ drop 1 row ++ octet ∷ []
 all_moved row octet l =
     ap (λ r. r ++ octet ∷ [])
-    (tab-of 15 (λ j. get_or row (j + 1) 0) (drop 1 row) (omega (arith, length-drop 1 row))
+    (tab_of 15 (λ j. get_or row (j + 1) 0) (drop 1 row) (omega (arith, length-drop 1 row))
     (λ j h. let e : j + 1 ≡ 1 + j = omega arith in ap (λ i. get_or row i 0) e ∙ sym (get_or-drop 1 row j 0)))
 
-abbrev invariant-loop : tie.invariant-loop
-invariant-loop octet row next₀ i₀ next i = (i ≤ 15) × (next ≡ moving row octet i)
+abbrev invariant_loop : tie.invariant_loop
+invariant_loop octet row next₀ i₀ next i = (i ≤ 15) × (next ≡ moving row octet i)
 
-abbrev decreases-loop : tie.decreases-loop
-decreases-loop octet row next₀ i₀ next i = 15 - i
+abbrev decreases_loop : tie.decreases_loop
+decreases_loop octet row next₀ i₀ next i = 15 - i
 
-loop-again : tie.Need-loop-preserved invariant-loop decreases-loop
-loop-again c =
+loop_again : tie.Need-loop-preserved invariant_loop decreases_loop
+loop_again c =
     let l = c.before.loop in
     let a = c.before.before.args in
-    (omega arith, ap (λ d. set d l.i (get_or a.t1 (l.i + 1) 0)) l.invariant.1 ∙ one-moved a.t1 a.octet l.i (omega arith))
+    (omega arith, ap (λ d. set d l.i (get_or a.t1 (l.i + 1) 0)) l.invariant.1 ∙ one_moved a.t1 a.octet l.i (omega arith))
 
-returns : tie.Need-returns invariant-loop decreases-loop
+returns : tie.Need-returns invariant_loop decreases_loop
 returns c =
     let l = c.before.loop in
     let a = c.before.before.args in
     let e : l.i ≡ 15 = omega arith in
     l.invariant.1 ∙ ap (moving a.t1 a.octet) e ∙ all_moved a.t1 a.octet (omega arith)
 
-pub moved-spec : {M : Type 1} → statement M
-unfolding tabFrom
-moved-spec =
+pub moved_spec : {M : Type 1} → statement M
+unfolding tab_from
+moved_spec =
     tie.close
     (tie.spec
-    invariant-loop
-    decreases-loop
+    invariant_loop
+    decreases_loop
     (λ c. (omega arith, refl))
     (omega arith)
     (omega arith)
     (omega arith)
     (omega arith)
     (omega arith)
-    loop-again
+    loop_again
     returns)

@@ -30,8 +30,8 @@ returns c =
       row = m.moved.ensures i;
     }
 
-pub tallied-spec : {M : Type 1} → statement M
-tallied-spec =
+pub tallied_spec : {M : Type 1} → statement M
+tallied_spec =
     tie.close
     (tie.spec
     (search rules)

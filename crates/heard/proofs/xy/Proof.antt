@@ -6,8 +6,8 @@ use Rattle.heard.proofs.xy.Tie as tie
 returns : tie.Need-returns
 returns c = rw (ne_eqb c.before.before.args.h.passed 0 c.if1.true)
 
-returns-2 : tie.Need-returns-2
-returns-2 c = rw c.if1.false
+returns_2 : tie.Need-returns-2
+returns_2 c = rw c.if1.false
 
-pub xy-spec : {M : Type 1} → statement M
-xy-spec = tie.close (tie.spec returns returns-2)
+pub xy_spec : {M : Type 1} → statement M
+xy_spec = tie.close (tie.spec returns returns_2)

@@ -7,14 +7,14 @@ use Rattle.base.proofs.PartLaws.{copy_more, copy_done}
 use Rattle.jikhvanto.proofs.copy.Statement.{statement}
 use Rattle.jikhvanto.proofs.copy.Tie as tie
 
-abbrev invariant-loop : tie.invariant-loop
-invariant-loop from to₀ i₀ to i = (i ≤ 32) × (length to ≡ 32) × (take i to ≡ take i from)
+abbrev invariant_loop : tie.invariant_loop
+invariant_loop from to₀ i₀ to i = (i ≤ 32) × (length to ≡ 32) × (take i to ≡ take i from)
 
-abbrev decreases-loop : tie.decreases-loop
-decreases-loop from to₀ i₀ to i = 32 - i
+abbrev decreases_loop : tie.decreases_loop
+decreases_loop from to₀ i₀ to i = 32 - i
 
-loop-again : tie.Need-loop-preserved invariant-loop decreases-loop
-loop-again c =
+loop_again : tie.Need-loop-preserved invariant_loop decreases_loop
+loop_again c =
     let l = c.before.before.loop in
     let from = c.before.before.before.args.from.now in (
       omega arith,
@@ -22,7 +22,7 @@ loop-again c =
       copy_more l.to from l.i (omega arith) (omega arith) l.invariant.2,
     )
 
-returns : tie.Need-returns invariant-loop decreases-loop
+returns : tie.Need-returns invariant_loop decreases_loop
 returns c =
     let l = c.before.loop in
     let from = c.before.before.args.from.now in
@@ -31,12 +31,12 @@ returns c =
 pub copy_spec : {M : Type 1} → statement M
 copy_spec =
     tie.close
-    (tie.spec invariant-loop decreases-loop
+    (tie.spec invariant_loop decreases_loop
     (λ c. (omega arith, c.requires.1, refl))
     (omega arith)
     (omega arith)
     (omega arith)
     (omega arith)
-    loop-again
+    loop_again
     (omega arith)
     returns)

@@ -10,5 +10,5 @@ use Rattle.jikhvanto.proofs.is_reading.Tie as tie
 returns : tie.Need-returns
 returns c = sym (ap (λ k. eqb k 3) (get_or-eq_default c.before.args.octets.now 0 {n = 0} (omega (arith, c.if1.true))))
 
-pub is-reading-spec : {M : Type 1} → statement M
-is-reading-spec = tie.close (tie.spec returns (search rules) (λ c. refl))
+pub is_reading_spec : {M : Type 1} → statement M
+is_reading_spec = tie.close (tie.spec returns (search rules) (λ c. refl))

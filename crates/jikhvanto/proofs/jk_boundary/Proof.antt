@@ -11,9 +11,9 @@ returns c =
     let d = c.before.before in
     let e = d.boundary.ensures ∙ ap crossed d.before.unpack.ensures in
     record {
-      its-number = c.store.ensures.0 ∙ ap (λ a. a.number) e;
-      its-state = c.store.ensures.1 ∙ ap (stored d.before.before.before.args.state.now) e;
+      its_number = c.store.ensures.0 ∙ ap (λ a. a.number) e;
+      its_state = c.store.ensures.1 ∙ ap (stored d.before.before.before.args.state.now) e;
     }
 
-pub jk-boundary-spec : {M : Type 1} → statement M
-jk-boundary-spec = tie.close (tie.spec (λ c κs. search rules) (λ c κs. search rules) (λ c κs. search rules) returns)
+pub jk_boundary_spec : {M : Type 1} → statement M
+jk_boundary_spec = tie.close (tie.spec (λ c κs. search rules) (λ c κs. search rules) (λ c κs. search rules) returns)

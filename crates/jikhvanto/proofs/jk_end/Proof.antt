@@ -2,7 +2,7 @@
 use mathlib.Core.Path.{ap, ◌∙◌}
 use borrow.Author.Rules.{rules}
 use Rattle.stream.specs.Entry.{ending}
-use Rattle.jikhvanto.proofs.StreamLaws.{ended-taken, ended-refused}
+use Rattle.jikhvanto.proofs.StreamLaws.{ended_taken, ended_refused}
 use Rattle.jikhvanto.proofs.jk_end.Statement.{statement}
 use Rattle.jikhvanto.proofs.jk_end.Tie as tie
 
@@ -12,18 +12,18 @@ returns c =
     let g = t.before.before in
     let w = g.before.before.before in
     let u = w.before in
-    ended-taken u.before.before.before.args.stream.now w.end.result (w.end.ensures ∙ ap ending u.unpack-stream.ensures)
+    ended_taken u.before.before.before.args.stream.now w.end.result (w.end.ensures ∙ ap ending u.unpack-stream.ensures)
     g.give-reading.new.1.0 g.give-reading.ensures t.if1.true c.store-numbers.new.1.0 c.store-numbers.ensures
 
-returns-2 : tie.Need-returns-2
-returns-2 c =
+returns_2 : tie.Need-returns-2
+returns_2 c =
     let g = c.before.before in
     let w = g.before.before.before in
     let u = w.before in
-    ended-refused u.before.before.before.args.stream.now w.end.result (w.end.ensures ∙ ap ending u.unpack-stream.ensures)
+    ended_refused u.before.before.before.args.stream.now w.end.result (w.end.ensures ∙ ap ending u.unpack-stream.ensures)
     g.give-reading.new.1.0 g.give-reading.ensures c.if1.false
 
-pub jk-end-spec : {M : Type 1} → statement M
-jk-end-spec =
+pub jk_end_spec : {M : Type 1} → statement M
+jk_end_spec =
     tie.close
-    (tie.spec (λ c κs. search rules) (λ c κs. search rules) (λ c κs. search rules) (λ c κs. search rules) returns returns-2)
+    (tie.spec (λ c κs. search rules) (λ c κs. search rules) (λ c κs. search rules) (λ c κs. search rules) returns returns_2)

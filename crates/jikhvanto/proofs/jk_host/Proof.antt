@@ -7,17 +7,17 @@ use borrow.Author.Rules.{rules}
 use lib.Dec.{eqb}
 use Rattle.exchange.specs.Machine.{kind_of, hosted}
 use Rattle.exchange.specs.declared.Answered.{Answered}
-use Rattle.jikhvanto.specs.Octets.{state_of, stored, hostStored, pairPlaces}
+use Rattle.jikhvanto.specs.Octets.{state_of, stored, host_stored, pair_places}
 use Rattle.jikhvanto.proofs.jk_host.Statement.{statement}
 use Rattle.jikhvanto.proofs.jk_host.Tie as tie
 
 module _ (state r : List ℕ) where
-  reads : eqb (kind_of r) 3 ≡ true → state ≡ hostStored state r
-  unfolding hostStored
+  reads : eqb (kind_of r) 3 ≡ true → state ≡ host_stored state r
+  unfolding host_stored
   reads e = rw e
 
-  stores : eqb (kind_of r) 3 ≡ false → stored state (hosted (state_of state) r) ≡ hostStored state r
-  unfolding hostStored
+  stores : eqb (kind_of r) 3 ≡ false → stored state (hosted (state_of state) r) ≡ host_stored state r
+  unfolding host_stored
   stores e = rw e
 
 -- what the machine answered
@@ -37,13 +37,13 @@ returns c =
     let a = g.before.before.before.before.before.before.before.args in
     let e = answered g in
     record {
-      its-number = ap (λ (x : Answered). x.number) e;
-      its-state = reads a.state.now a.octets.now (sym i.is-reading.ensures ∙ c.if1.true);
-      its-answer = g.give-pair.ensures ∙ ap (λ (x : Answered). pairPlaces g.before.before.before.host.result.number x.entry) e;
+      its_number = ap (λ (x : Answered). x.number) e;
+      its_state = reads a.state.now a.octets.now (sym i.is-reading.ensures ∙ c.if1.true);
+      its_answer = g.give-pair.ensures ∙ ap (λ (x : Answered). pair_places g.before.before.before.host.result.number x.entry) e;
     }
 
-returns-2 : tie.Need-returns-2
-returns-2 c =
+returns_2 : tie.Need-returns-2
+returns_2 c =
     let l = c.before.before in
     let i = l.before in
     let g = i.before in
@@ -51,15 +51,15 @@ returns-2 c =
     let a = h.before.before.before.before.args in
     let e = answered g in
     record {
-      its-number = c.store.ensures.0 ∙ ap (λ (x : Answered). x.number) e;
-      its-state = c.store.ensures.1 ∙ ap (stored a.state.now) e
+      its_number = c.store.ensures.0 ∙ ap (λ (x : Answered). x.number) e;
+      its_state = c.store.ensures.1 ∙ ap (stored a.state.now) e
           ∙ stores a.state.now a.octets.now (sym i.is-reading.ensures ∙ l.if1.false);
-      its-answer = g.give-pair.ensures ∙ ap (λ (x : Answered). pairPlaces h.host.result.number x.entry) e
-          ∙ ap (λ n. pairPlaces n (hosted (state_of a.state.now) a.octets.now).entry) (sym c.store.ensures.0);
+      its_answer = g.give-pair.ensures ∙ ap (λ (x : Answered). pair_places h.host.result.number x.entry) e
+          ∙ ap (λ n. pair_places n (hosted (state_of a.state.now) a.octets.now).entry) (sym c.store.ensures.0);
     }
 
-pub jk-host-spec : {M : Type 1} → statement M
-jk-host-spec =
+pub jk_host_spec : {M : Type 1} → statement M
+jk_host_spec =
     tie.close
     (tie.spec (λ c κs. search rules) (λ c κs. search rules) (search rules) (λ c κs. search rules) (λ c κs. search rules) returns
-    (λ c κs. search rules) returns-2)
+    (λ c κs. search rules) returns_2)

@@ -12,9 +12,9 @@ returns c =
     let a = d.before.before.before.args in
     let e = d.key.ensures ∙ ap (λ s. keyed s a.position) d.before.unpack.ensures in
     record {
-      its-number = c.store.ensures.0 ∙ ap (λ a. a.number) e;
-      its-state = c.store.ensures.1 ∙ ap (stored a.state.now) e;
+      its_number = c.store.ensures.0 ∙ ap (λ a. a.number) e;
+      its_state = c.store.ensures.1 ∙ ap (stored a.state.now) e;
     }
 
-pub jk-key-spec : {M : Type 1} → statement M
-jk-key-spec = tie.close (tie.spec (λ c κs. search rules) (λ c κs. search rules) (λ c κs. search rules) returns)
+pub jk_key_spec : {M : Type 1} → statement M
+jk_key_spec = tie.close (tie.spec (λ c κs. search rules) (λ c κs. search rules) (λ c κs. search rules) returns)

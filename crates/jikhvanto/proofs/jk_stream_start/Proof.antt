@@ -4,7 +4,7 @@ use Rattle.jikhvanto.proofs.jk_stream_start.Statement.{statement}
 use Rattle.jikhvanto.proofs.jk_stream_start.Tie as tie
 
 returns : tie.Need-returns
-returns c = record { its-stream = refl }
+returns c = record { its_stream = refl }
 
-pub jk-stream-start-spec : {M : Type 1} → statement M
-jk-stream-start-spec = tie.close (tie.spec returns)
+pub jk_stream_start_spec : {M : Type 1} → statement M
+jk_stream_start_spec = tie.close (tie.spec returns)

@@ -5,22 +5,22 @@ use mathlib.Core.List.{List}
 use borrow.Author.Rules.{rules}
 use Rattle.write.specs.Entry.{Wrote}
 use Rattle.write.specs.declared.Written.{Written}
-use Rattle.jikhvanto.specs.Octets.{pairPlaces}
+use Rattle.jikhvanto.specs.Octets.{pair_places}
 use Rattle.jikhvanto.specs.Calls.{JkWrite}
 use Rattle.jikhvanto.proofs.jk_write.Statement.{statement}
 use Rattle.jikhvanto.proofs.jk_write.Tie as tie
 
-placed : {p o : List ℕ} {k : ℕ} {out out' answer : List ℕ} {w : Written} → Wrote p o k out w out' → answer ≡ pairPlaces w.number w.check
+placed : {p o : List ℕ} {k : ℕ} {out out' answer : List ℕ} {w : Written} → Wrote p o k out w out' → answer ≡ pair_places w.number w.check
     → JkWrite p o k out w.number out' answer
 placed {p} {o} {k} {out} {out'} {w = w} h e =
     record {
-      its-output = subst (λ x. Wrote p o k out x out') h.its-answer h;
-      its-number = ap (λ (x : Written). x.number) h.its-answer;
-      its-answer = e ∙ ap (λ (x : Written). pairPlaces w.number x.check) h.its-answer;
+      its_output = subst (λ x. Wrote p o k out x out') h.its_answer h;
+      its_number = ap (λ (x : Written). x.number) h.its_answer;
+      its_answer = e ∙ ap (λ (x : Written). pair_places w.number x.check) h.its_answer;
     }
 
 returns : tie.Need-returns
 returns c = placed c.before.before.before.before.write.ensures c.give-pair.ensures
 
-pub jk-write-spec : {M : Type 1} → statement M
-jk-write-spec = tie.close (tie.spec (λ c κs. search rules) (λ c κs. search rules) (search rules) returns)
+pub jk_write_spec : {M : Type 1} → statement M
+jk_write_spec = tie.close (tie.spec (λ c κs. search rules) (λ c κs. search rules) (search rules) returns)

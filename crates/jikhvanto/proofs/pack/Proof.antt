@@ -1,22 +1,22 @@
 -- `pack` meets its contract: each `copy` lays one more map behind what stands there.
 use native.Mathlib.Omega.{arith}
 use borrow.Author.Rules.{rules}
-use Rattle.jikhvanto.proofs.Maps.{one-length, two-length, packed}
+use Rattle.jikhvanto.proofs.Maps.{one_length, two_length, packed}
 use Rattle.jikhvanto.proofs.pack.Statement.{statement}
 use Rattle.jikhvanto.proofs.pack.Tie as tie
 
-part-octets-end-2 : tie.Need-slice-bounds-octets-end-2
-part-octets-end-2 c =
+part_octets_end_2 : tie.Need-slice-bounds-octets-end-2
+part_octets_end_2 c =
     let d = c.before.before in
     let s = d.before.before.before.before.before.before.before.before.before.args.state in
-    omega (arith, one-length s d.copy.new.1.0 (omega arith))
+    omega (arith, one_length s d.copy.new.1.0 (omega arith))
 
-part-octets-end-3 : tie.Need-slice-bounds-octets-end-3
-part-octets-end-3 c =
+part_octets_end_3 : tie.Need-slice-bounds-octets-end-3
+part_octets_end_3 c =
     let e = c.before.before in
     let d = e.before.before.before.before in
     let s = d.before.before.before.before.before.before.before.before.before.args.state in
-    omega (arith, two-length s d.copy.new.1.0 (omega arith) e.copy2.new.1.0 (omega arith))
+    omega (arith, two_length s d.copy.new.1.0 (omega arith) e.copy2.new.1.0 (omega arith))
 
 returns : tie.Need-returns
 returns c =
@@ -27,8 +27,8 @@ returns c =
     packed s d.copy.new.1.0 (omega arith) e.copy2.new.1.0 (omega arith) d.copy.ensures
     e.copy2.ensures f.copy3.ensures
 
-pub pack-spec : {M : Type 1} → statement M
-pack-spec =
+pub pack_spec : {M : Type 1} → statement M
+pack_spec =
     tie.close
     (tie.spec
     (search rules)
@@ -45,11 +45,11 @@ pack-spec =
     (λ c. search rules)
     (search rules)
     (search rules)
-    part-octets-end-2
+    part_octets_end_2
     (λ c κs. search rules)
     (λ c. search rules)
     (search rules)
     (search rules)
-    part-octets-end-3
+    part_octets_end_3
     (λ c κs. search rules)
     returns)

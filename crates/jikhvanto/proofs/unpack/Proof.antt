@@ -11,8 +11,8 @@ returns c =
     let d = c.before.before.before in
     rw (d.before.before.before.before.map_at.ensures, d.before.before.map-at2.ensures, d.map-at3.ensures) refl
 
-pub unpack-spec : {M : Type 1} → statement M
-unpack-spec =
+pub unpack_spec : {M : Type 1} → statement M
+unpack_spec =
     tie.close
     (tie.spec
     (λ c κs. search rules)

@@ -2,12 +2,12 @@
 use mathlib.Core.Path.{◌∙◌}
 use borrow.Author.Rules.{rules}
 use lib.Dec.{eqb}
-use Rattle.jikhvanto.specs.Stream.{foundBy, streamOf}
+use Rattle.jikhvanto.specs.Stream.{found_by, stream_of}
 use Rattle.jikhvanto.proofs.unpack_stream.Statement.{statement}
 use Rattle.jikhvanto.proofs.unpack_stream.Tie as tie
 
 returns : tie.Need-returns
-unfolding streamOf
+unfolding stream_of
 returns c =
     let l₃ = c.before.before.before.before.before.before.before.before in
     let f = l₃.before in
@@ -18,7 +18,7 @@ returns c =
       line = record {
         before = l₃.length-at3.ensures i;
         found = (f.found-by.ensures
-            ∙ λ j. foundBy (p.before.number_at.ensures j) (p.length_at.ensures j) (f.before.length-at2.ensures j)) i;
+            ∙ λ j. found_by (p.before.number_at.ensures j) (p.length_at.ensures j) (f.before.length-at2.ensures j)) i;
         used = c.before.before.before.before.before.before.before.length-at4.ensures i;
         lost = c.before.before.before.before.before.before.length-at5.ensures i;
         words = c.before.before.before.before.before.length-at6.ensures i;
@@ -28,8 +28,8 @@ returns c =
       };
     }
 
-pub unpack-stream-spec : {M : Type 1} → statement M
-unpack-stream-spec =
+pub unpack_stream_spec : {M : Type 1} → statement M
+unpack_stream_spec =
     tie.close
     (tie.spec
     (λ c κs. search rules)

@@ -13,5 +13,5 @@ returns c =
     let a = c.before.before.args in
     (c.bit_in.ensures.0 ∙ ap (bit_at a.s.now) (place_in a.p), c.bit_in.ensures.1)
 
-pub bit-spec : {M : Type 1} → statement M
-bit-spec = tie.close (tie.spec (λ c κs. (search rules, omega (arith, and_le_r c.before.args.p 7))) returns)
+pub bit_spec : {M : Type 1} → statement M
+bit_spec = tie.close (tie.spec (λ c κs. (search rules, omega (arith, and_le_r c.before.args.p 7))) returns)

@@ -15,5 +15,5 @@ returns c =
     let x = get_or a.s.now a.i 0 / 2 ^ (7 - a.o) in
     (and_mask x 1 ∙ sym (bit_in a.s.now a.i a.o c.before.requires.1), omega (arith, and_le_r x 1))
 
-pub bit-in-spec : {M : Type 1} → statement M
-bit-in-spec = tie.close (tie.spec (search rules) (search rules) (search rules) (search rules) returns)
+pub bit_in_spec : {M : Type 1} → statement M
+bit_in_spec = tie.close (tie.spec (search rules) (search rules) (search rules) (search rules) returns)

@@ -3,7 +3,7 @@ use mathlib.Core.Path.{ap, ◌∙◌}
 use native.Mathlib.Omega.{arith}
 use borrow.Author.Rules.{rules}
 use Rattle.line.specs.Window.{turned}
-use Rattle.line.proofs.Octets.{four-and-four, turned-field}
+use Rattle.line.proofs.Octets.{four_and_four, turned_field}
 use Rattle.line.proofs.eight_octets.Statement.{statement}
 use Rattle.line.proofs.eight_octets.Tie as tie
 
@@ -13,7 +13,7 @@ returns c =
     let s = b.before.args.s.now in
     let i = b.before.args.i in
     rw (c.before.little.ensures.0, c.little2.ensures.0)
-    (ap (turned 8) (four-and-four s i) ∙ turned-field s (λ j. (b.shared-slice-known.given j).fits) i 8 8 (omega arith))
+    (ap (turned 8) (four_and_four s i) ∙ turned_field s (λ j. (b.shared-slice-known.given j).fits) i 8 8 (omega arith))
 
-pub eight-octets-spec : {M : Type 1} → statement M
-eight-octets-spec = tie.close (tie.spec (search rules) (omega arith) (search rules) (omega arith) (omega arith) returns)
+pub eight_octets_spec : {M : Type 1} → statement M
+eight_octets_spec = tie.close (tie.spec (search rules) (omega arith) (search rules) (omega arith) (omega arith) returns)

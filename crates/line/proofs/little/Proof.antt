@@ -10,8 +10,8 @@ returns : tie.Need-returns
 unfolding low_first
 returns c = (simp add_assoc (omega arith), omega arith)
 
-pub little-spec : {M : Type 1} → statement M
-little-spec =
+pub little_spec : {M : Type 1} → statement M
+little_spec =
     tie.close
     (tie.spec
     (omega arith) (search rules)

@@ -8,14 +8,14 @@ use Rattle.base.proofs.PartLaws.{copy_more, copy_done}
 use Rattle.line.proofs.put_run.Statement.{statement}
 use Rattle.line.proofs.put_run.Tie as tie
 
-abbrev invariant-loop : tie.invariant-loop
-invariant-loop out₀ octets j₀ out j = (j ≤ 16) × (length out ≡ 16) × (take j out ≡ take j octets)
+abbrev invariant_loop : tie.invariant_loop
+invariant_loop out₀ octets j₀ out j = (j ≤ 16) × (length out ≡ 16) × (take j out ≡ take j octets)
 
-abbrev decreases-loop : tie.decreases-loop
-decreases-loop out₀ octets j₀ out j = 16 - j
+abbrev decreases_loop : tie.decreases_loop
+decreases_loop out₀ octets j₀ out j = 16 - j
 
-loop-again : tie.Need-loop-preserved invariant-loop decreases-loop
-loop-again c =
+loop_again : tie.Need-loop-preserved invariant_loop decreases_loop
+loop_again c =
     let l = c.before.loop in
     let octets = c.before.before.args.t1 in (
       omega arith,
@@ -23,20 +23,20 @@ loop-again c =
       copy_more l.out octets l.j (omega arith) (omega arith) l.invariant.2,
     )
 
-returns : tie.Need-returns invariant-loop decreases-loop
+returns : tie.Need-returns invariant_loop decreases_loop
 returns c =
     let l = c.before in
     copy_done l.loop.out l.before.args.t1 l.loop.j (omega arith) (omega arith) l.loop.invariant.2
 
-pub put-run-spec : {M : Type 1} → statement M
-put-run-spec =
+pub put_run_spec : {M : Type 1} → statement M
+put_run_spec =
     tie.close
-    (tie.spec invariant-loop decreases-loop
+    (tie.spec invariant_loop decreases_loop
     (λ c. (omega arith, search rules, refl))
     (omega arith)
     (omega arith)
     (omega arith)
     (omega arith)
-    loop-again
+    loop_again
     (omega arith)
     returns)

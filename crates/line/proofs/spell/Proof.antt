@@ -8,33 +8,33 @@ use Rattle.base.proofs.PartLaws.{copy_more, copy_done}
 use Rattle.line.proofs.spell.Statement.{statement}
 use Rattle.line.proofs.spell.Tie as tie
 
-abbrev invariant-loop : tie.invariant-loop
-invariant-loop n octets₀ spelt j₀ octets j = (j ≤ 8) × (length octets ≡ 8) × (take j octets ≡ take j spelt)
+abbrev invariant_loop : tie.invariant_loop
+invariant_loop n octets₀ spelt j₀ octets j = (j ≤ 8) × (length octets ≡ 8) × (take j octets ≡ take j spelt)
 
-abbrev decreases-loop : tie.decreases-loop
-decreases-loop n octets₀ spelt j₀ octets j = 8 - j
+abbrev decreases_loop : tie.decreases_loop
+decreases_loop n octets₀ spelt j₀ octets j = 8 - j
 
-loop-again : tie.Need-loop-preserved invariant-loop decreases-loop
-loop-again c =
+loop_again : tie.Need-loop-preserved invariant_loop decreases_loop
+loop_again c =
     let l = c.before.loop in
     (omega arith, simp length-set l.invariant.1, copy_more l.octets c.before.before.octets-of.result l.j (omega arith) (omega arith) l.invariant.2)
 
-returns : tie.Need-returns invariant-loop decreases-loop
+returns : tie.Need-returns invariant_loop decreases_loop
 returns c =
     let l = c.before.loop in
     let w = c.before.before.octets-of in
     copy_done l.octets w.result l.j (omega arith) (omega arith) l.invariant.2 ∙ w.ensures
 
-pub spell-spec : {M : Type 1} → statement M
-spell-spec =
+pub spell_spec : {M : Type 1} → statement M
+spell_spec =
     tie.close
-    (tie.spec invariant-loop decreases-loop
+    (tie.spec invariant_loop decreases_loop
     (λ c κs. tt)
     (λ c. (omega arith, search rules, refl))
     (omega arith)
     (omega arith)
     (omega arith)
     (omega arith)
-    loop-again
+    loop_again
     (omega arith)
     returns)

@@ -22,8 +22,8 @@ returns c =
     (w / 281474976710656 % 256)
     (w / 72057594037927936 % 256))
 
-pub turned-spec : {M : Type 1} → statement M
-turned-spec =
+pub turned_spec : {M : Type 1} → statement M
+turned_spec =
     tie.close
     (tie.spec
     (omega arith) (omega arith) (omega arith) (omega arith) (omega arith) (omega arith) (omega arith)

@@ -4,8 +4,8 @@ use Rattle.line.proofs.BitLaws.{word_of}
 use Rattle.line.proofs.word.Statement.{statement}
 use Rattle.line.proofs.word.Tie as tie
 
-pub word-spec : {M : Type 1} → statement M
-word-spec =
+pub word_spec : {M : Type 1} → statement M
+word_spec =
     tie.close
     (tie.spec
     (search rules)

@@ -8,8 +8,8 @@ use Rattle.measure.proofs.after_bit2.Tie as tie
 returns : tie.Need-returns
 returns c = (refl, rw (ne_eqb c.before.args.bit 0 c.if1.true), refl, refl)
 
-returns-2 : tie.Need-returns-2
-returns-2 c = let d = c.before in (refl, rw (eq-eqb d.before.args.bit 0 d.if1.false), refl, refl)
+returns_2 : tie.Need-returns-2
+returns_2 c = let d = c.before in (refl, rw (eq-eqb d.before.args.bit 0 d.if1.false), refl, refl)
 
-pub after-bit2-spec : {M : Type 1} → statement M
-after-bit2-spec = tie.close (tie.spec returns (search rules) returns-2)
+pub after_bit2_spec : {M : Type 1} → statement M
+after_bit2_spec = tie.close (tie.spec returns (search rules) returns_2)

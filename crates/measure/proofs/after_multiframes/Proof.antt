@@ -6,33 +6,33 @@ use mathlib.Core.Logic.{⊎_elim}
 use native.Mathlib.Omega.{arith}
 use lib.Dec.{eqb}
 use Rattle.base.specs.Choice.{if◌then◌else◌}
-use Rattle.measure.specs.Reading.{wrong, wrongBit2}
+use Rattle.measure.specs.Reading.{wrong, wrong_bit2}
 use Rattle.measure.specs.Track.{run_of}
 use Rattle.measure.specs.declared.Tracking.{Tracking}
-use Rattle.measure.proofs.Tracks.{Told, none_told, told-short, told-runs, word-told, bit2-told}
+use Rattle.measure.proofs.Tracks.{Told, none_told, told_short, told_runs, word_told, bit2_told}
 use Rattle.measure.proofs.after_multiframes.Statement.{statement}
 use Rattle.measure.proofs.after_multiframes.Tie as tie
 
-abbrev invariant-loop : tie.invariant-loop
-invariant-loop s q h t₀ i₀ i-end t i = (8 * h - 2 ≤ i) × (i ≤ 8 * h) × Told s q (8 * h - 2) i i t
+abbrev invariant_loop : tie.invariant_loop
+invariant_loop s q h t₀ i₀ i-end t i = (8 * h - 2 ≤ i) × (i ≤ 8 * h) × Told s q (8 * h - 2) i i t
 
-abbrev decreases-loop : tie.decreases-loop
-decreases-loop s q h t₀ i₀ i-end t i = i-end - i
+abbrev decreases_loop : tie.decreases_loop
+decreases_loop s q h t₀ i₀ i-end t i = i-end - i
 
 fewer : (i n : ℕ) → i < n → n - (i + 1) < n - i
 fewer i n h = omega arith
 
-returns : tie.Need-returns invariant-loop decreases-loop
+returns : tie.Need-returns invariant_loop decreases_loop
 unfolding run_of
 returns c =
     let e = c.if1.true in
     record { wordrun = rw e; bit2run = rw e; words = refl; wordbits = refl }
 
-is-word-requires : tie.Need-is-word-requires invariant-loop decreases-loop
-is-word-requires c κs = record { countable = c.before.before.before.before.requires.countable; there = omega arith }
+is_word_requires : tie.Need-is-word-requires invariant_loop decreases_loop
+is_word_requires c κs = record { countable = c.before.before.before.before.requires.countable; there = omega arith }
 
 -- the word of a frame has gone by
-gone : (c : tie.Joined2 invariant-loop decreases-loop)
+gone : (c : tie.Joined2 invariant_loop decreases_loop)
     → (let l = c.before.before.before in
     let a = l.before.before.before.args in
     Told a.s.now a.q (8 * a.h - 2) (l.loop.i + 1) l.loop.i c.if2.t)
@@ -45,7 +45,7 @@ gone c =
     let i = l.loop.i in
     let e : wrong a.s.now a.q i ≡ not w.is_IsWord.result = sym (ap not w.is_IsWord.ensures) in
     let run : Bool → ℕ = λ b. if b then t.wordrun + 1 else 0 in
-    let p = word-told l.loop.invariant.0 l.loop.invariant.2 in
+    let p = word_told l.loop.invariant.0 l.loop.invariant.2 in
     ⊎_elim
     (λ o.
     let k = o.1 in
@@ -59,31 +59,31 @@ gone c =
     (ap (λ (x : Tracking). x.bit2run) k) (ap (λ (x : Tracking). x.words) k) (ap (λ (x : Tracking). x.wordbits) k))
     c.if2.branch
 
-after-bit2-requires : tie.Need-after-bit2-requires invariant-loop decreases-loop
-after-bit2-requires c κs = told-short (gone c.before) (omega arith) (omega arith)
+after_bit2_requires : tie.Need-after-bit2-requires invariant_loop decreases_loop
+after_bit2_requires c κs = told_short (gone c.before) (omega arith) (omega arith)
 
-loop-again : tie.Need-loop-preserved invariant-loop decreases-loop
-unfolding wrongBit2
-loop-again c =
+loop_again : tie.Need-loop-preserved invariant_loop decreases_loop
+unfolding wrong_bit2
+loop_again c =
     let d = c.before.before in
     let l = d.before.before.before in
     let e = c.after-bit2.ensures in (
       omega arith,
       omega arith,
-      bit2-told l.loop.invariant.0 (gone d) e.0
+      bit2_told l.loop.invariant.0 (gone d) e.0
           (e.1 ∙ ap (λ x. if eqb x 0 then d.if2.t.bit2run + 1 else 0) c.before.bit.ensures.0)
           e.2 e.3,
     )
 
-returns-2 : tie.Need-returns-2 invariant-loop decreases-loop
-returns-2 c = told-runs c.before.loop.invariant.2 (omega arith) (omega arith)
+returns_2 : tie.Need-returns-2 invariant_loop decreases_loop
+returns_2 c = told_runs c.before.loop.invariant.2 (omega arith) (omega arith)
 
-pub after-multiframes-spec : {M : Type 1} → statement M
-after-multiframes-spec =
+pub after_multiframes_spec : {M : Type 1} → statement M
+after_multiframes_spec =
     tie.close
     (tie.spec
-    invariant-loop
-    decreases-loop
+    invariant_loop
+    decreases_loop
     returns
     (omega arith)
     (omega arith)
@@ -92,16 +92,16 @@ after-multiframes-spec =
     (omega arith)
     (omega arith)
     (omega arith)
-    is-word-requires
-    (λ c. omega (arith, c.before.before.before.before.loop.invariant.2.words-run))
+    is_word_requires
+    (λ c. omega (arith, c.before.before.before.before.loop.invariant.2.words_run))
     (omega arith)
     (omega arith)
     (omega arith)
     (omega arith)
     (omega arith)
     (λ c κs. omega arith)
-    after-bit2-requires
+    after_bit2_requires
     (omega arith)
     (λ c. let l = c.before.before.before.before.before in fewer l.loop.i (8 * l.before.before.before.args.h) (omega arith))
-    loop-again
-    returns-2)
+    loop_again
+    returns_2)

@@ -12,11 +12,11 @@ returns c =
     let e = eq-eqb c.before.args.wrong 0 c.if1.true in
     (rw e, refl, rw e (sym (add-zero c.before.args.t.words)), omega arith)
 
-returns-2 : tie.Need-returns-2
-returns-2 c =
+returns_2 : tie.Need-returns-2
+returns_2 c =
     let d = c.before.before.before in
     let e = ne_eqb d.before.args.wrong 0 d.if1.false in
     (rw e, refl, rw e, refl)
 
-pub after-word-spec : {M : Type 1} → statement M
-after-word-spec = tie.close (tie.spec returns (search rules) (search rules) (search rules) returns-2)
+pub after_word_spec : {M : Type 1} → statement M
+after_word_spec = tie.close (tie.spec returns (search rules) (search rules) (search rules) returns_2)

@@ -3,5 +3,5 @@ use native.Mathlib.Omega.{arith}
 use Rattle.measure.proofs.compared.Statement.{statement}
 use Rattle.measure.proofs.compared.Tie as tie
 
-pub compared-spec : {M : Type 1} → statement M
-compared-spec = tie.close (tie.spec (omega arith) (omega arith) (omega arith) (omega arith))
+pub compared_spec : {M : Type 1} → statement M
+compared_spec = tie.close (tie.spec (omega arith) (omega arith) (omega arith) (omega arith))

@@ -4,44 +4,44 @@ use mathlib.Core.Path.{◌≡◌, refl, sym, ap, ap₂, ◌∙◌}
 use native.Mathlib.Omega.{arith}
 use Rattle.base.specs.Tab.{sum}
 use Rattle.base.proofs.TabLaws.{sum_more}
-use Rattle.measure.specs.Reading.{zerosE, farEnd}
+use Rattle.measure.specs.Reading.{zeros_e, far_end}
 use Rattle.measure.proofs.far_end.Statement.{statement}
 use Rattle.measure.proofs.far_end.Tie as tie
 
-abbrev invariant-loop : tie.invariant-loop
-invariant-loop s q g zeros₀ m₀ zeros m = (m ≤ g) × (zeros ≡ sum m (zerosE s q)) × (zeros ≤ 2 * m)
+abbrev invariant_loop : tie.invariant_loop
+invariant_loop s q g zeros₀ m₀ zeros m = (m ≤ g) × (zeros ≡ sum m (zeros_e s q)) × (zeros ≤ 2 * m)
 
-abbrev decreases-loop : tie.decreases-loop
-decreases-loop s q g zeros₀ m₀ zeros m = g - m
+abbrev decreases_loop : tie.decreases_loop
+decreases_loop s q g zeros₀ m₀ zeros m = g - m
 
-loop-again : tie.Need-loop-preserved invariant-loop decreases-loop
-loop-again c =
+loop_again : tie.Need-loop-preserved invariant_loop decreases_loop
+loop_again c =
     let l = c.before.before in
     let a = l.before.before.args in
     let m = l.loop.m in
-    let z : c.zeros-e.result ≡ zerosE a.s.now a.q m = c.zeros-e.ensures.0 in (
+    let z : c.zeros-e.result ≡ zeros_e a.s.now a.q m = c.zeros-e.ensures.0 in (
       omega arith,
-      ap₂ (λ x y. x + y) l.loop.invariant.1 z ∙ sym (sum_more m (zerosE a.s.now a.q)),
+      ap₂ (λ x y. x + y) l.loop.invariant.1 z ∙ sym (sum_more m (zeros_e a.s.now a.q)),
       omega (arith, c.zeros-e.ensures.1, l.loop.invariant.2),
     )
 
-returns : tie.Need-returns invariant-loop decreases-loop
-unfolding farEnd
+returns : tie.Need-returns invariant_loop decreases_loop
+unfolding far_end
 returns c =
     let l = c.before in
     let a = l.before.before.args in
     let e : l.loop.m ≡ a.g = omega arith in
-    l.loop.invariant.1 ∙ ap (λ x. sum x (zerosE a.s.now a.q)) e
+    l.loop.invariant.1 ∙ ap (λ x. sum x (zeros_e a.s.now a.q)) e
 
-pub far-end-spec : {M : Type 1} → statement M
+pub far_end_spec : {M : Type 1} → statement M
 unfolding sum
-far-end-spec =
+far_end_spec =
     tie.close
-    (tie.spec invariant-loop decreases-loop
+    (tie.spec invariant_loop decreases_loop
     (λ c. (omega arith, refl, omega arith))
     (λ c κs. record { countable = c.before.before.before.requires.countable; there = omega arith })
     (λ c. omega (arith, c.zeros-e.ensures.1, c.before.before.loop.invariant.2))
     (omega arith)
     (omega arith)
-    loop-again
+    loop_again
     returns)

@@ -10,8 +10,8 @@ returns : tie.Need-returns
 unfolding sum
 returns c = let a = c.before.before.args in sym (ap (disagreeing a.s.now a.p) c.if1.true)
 
-pub judge-spec : {M : Type 1} → statement M
-judge-spec =
+pub judge_spec : {M : Type 1} → statement M
+judge_spec =
     tie.close
     (tie.spec
     returns

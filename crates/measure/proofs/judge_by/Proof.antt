@@ -13,59 +13,59 @@ use Rattle.line.specs.Bit.{Room}
 use Rattle.e1.specs.Block.{agrees}
 use Rattle.e1.specs.Block as e1
 use Rattle.base.specs.Tab.{sum, count}
-use Rattle.base.proofs.TabLaws.{count_yes, count_no, count-le}
-use Rattle.measure.specs.Reading.{agreesIn}
+use Rattle.base.proofs.TabLaws.{count_yes, count_no, count_le}
+use Rattle.measure.specs.Reading.{agrees_in}
 use Rattle.measure.proofs.judge_by.Statement.{statement}
 use Rattle.measure.proofs.judge_by.Tie as tie
 
 abbrev differs : List ℕ → ℕ → ℕ → Bool
-differs s q b = not (agreesIn s q b)
+differs s q b = not (agrees_in s q b)
 
-abbrev invariant-loop : tie.invariant-loop
-invariant-loop s p n table carried₀ errored₀ b₀ carried errored b =
+abbrev invariant_loop : tie.invariant_loop
+invariant_loop s p n table carried₀ errored₀ b₀ carried errored b =
     (b ≤ n) × (carried ≡ e1.carried s (p + 2048 * b)) × (errored ≡ count b (differs s p))
 
-abbrev decreases-loop : tie.decreases-loop
-decreases-loop s p n table carried₀ errored₀ b₀ carried errored b = n - b
+abbrev decreases_loop : tie.decreases_loop
+decreases_loop s p n table carried₀ errored₀ b₀ carried errored b = n - b
 
 room : {s : List ℕ} {p n : ℕ} → length s < 2 ^ 60 → p + n ≤ 8 * length s → Room s p n
 room h k = record { countable = h; there = k }
 
 -- there are blocks, and room for them
-roomy : (c : tie.Else1 invariant-loop decreases-loop)
+roomy : (c : tie.Else1 invariant_loop decreases_loop)
     → (let a = c.before.before.args in Room a.s.now a.p (2048 * a.n + 2048))
 roomy c = c.before.before.requires.0 (omega (arith, c.if1.false))
 
-returns : tie.Need-returns invariant-loop decreases-loop
+returns : tie.Need-returns invariant_loop decreases_loop
 unfolding sum
 returns c = let a = c.before.before.args in sym (ap (λ n. count n (differs a.s.now a.p)) c.if1.true)
 
-loop-holds : tie.Need-loop-init invariant-loop decreases-loop
+loop_holds : tie.Need-loop-init invariant_loop decreases_loop
 unfolding sum
-loop-holds c =
+loop_holds c =
     let a = c.before.before.before.args in (
       omega arith,
       c.carried.ensures ∙ ap (e1.carried a.s.now) (sym (add-zero a.p)),
       refl,
     )
 
-block-check-requires : tie.Need-block-check-requires invariant-loop decreases-loop
-block-check-requires c κs =
+block_check_requires : tie.Need-block-check-requires invariant_loop decreases_loop
+block_check_requires c κs =
     let l = c.before in
     let d = l.before.before in
     let r = roomy d in
     (room r.countable (omega (arith, r.there)), l.loop.invariant.1, d.before.before.requires.1)
 
-add-errored : tie.Need-overflow-add-errored invariant-loop decreases-loop
-add-errored c =
+add_errored : tie.Need-overflow-add-errored invariant_loop decreases_loop
+add_errored c =
     let l = c.before.before.before.before in
     let a = l.before.before.before.before.args in
     let r = roomy l.before.before in
-    omega (arith, l.loop.invariant.2, count-le l.loop.b (differs a.s.now a.p), r.countable, r.there)
+    omega (arith, l.loop.invariant.2, count_le l.loop.b (differs a.s.now a.p), r.countable, r.there)
 
-loop-again : tie.Need-loop-preserved invariant-loop decreases-loop
+loop_again : tie.Need-loop-preserved invariant_loop decreases_loop
 unfolding agrees
-loop-again c =
+loop_again c =
     let k = c.before in
     let w = k.before in
     let l = w.before.before in
@@ -75,7 +75,7 @@ loop-again c =
     let before = l.loop.invariant.2 in
     let check = w.block-check.result in
     let carried = k.carried2.result in
-    let e : agreesIn a.s.now a.p b ≡ eqb check carried = sym (ap₂ eqb w.block-check.ensures.0 k.carried2.ensures) in
+    let e : agrees_in a.s.now a.p b ≡ eqb check carried = sym (ap₂ eqb w.block-check.ensures.0 k.carried2.ensures) in
     let next : a.p + 2048 * b + 2048 ≡ a.p + 2048 * (b + 1) = omega arith in (
       omega arith,
       k.carried2.ensures ∙ ap (e1.carried a.s.now) next,
@@ -85,27 +85,27 @@ loop-again c =
           c.if2.branch,
     )
 
-returns-2 : tie.Need-returns-2 invariant-loop decreases-loop
-returns-2 c =
+returns_2 : tie.Need-returns-2 invariant_loop decreases_loop
+returns_2 c =
     let l = c.before in
     let a = l.before.before.before.before.args in
     let e : l.loop.b ≡ a.n = omega arith in
     l.loop.invariant.2 ∙ ap (λ x. count x (differs a.s.now a.p)) e
 
-pub judge-by-spec : {M : Type 1} → statement M
-judge-by-spec =
+pub judge_by_spec : {M : Type 1} → statement M
+judge_by_spec =
     tie.close
-    (tie.spec invariant-loop decreases-loop
+    (tie.spec invariant_loop decreases_loop
     returns
     (λ c κs. let r = roomy c in room r.countable (omega (arith, r.there)))
-    loop-holds
+    loop_holds
     (λ c. let r = roomy c.before.before.before in omega (arith, r.countable, r.there))
     (λ c. let r = roomy c.before.before.before in omega (arith, r.countable, r.there))
-    block-check-requires
+    block_check_requires
     (λ c. let r = roomy c.before.before.before.before in omega (arith, r.countable, r.there))
     (λ c κs. let r = roomy c.before.before.before.before in room r.countable (omega (arith, r.there)))
-    add-errored
+    add_errored
     (omega arith)
     (omega arith)
-    loop-again
-    returns-2)
+    loop_again
+    returns_2)

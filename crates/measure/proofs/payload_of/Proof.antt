@@ -6,28 +6,28 @@ use native.Mathlib.Omega.{arith}
 use lib.ListN.{length, take, drop}
 use Rattle.base.proofs.PartLaws.{part_length}
 use Rattle.measure.specs.Reading.{slots}
-use Rattle.measure.proofs.Slots.{slots-none, part-more, part-rest, slots_kept}
+use Rattle.measure.proofs.Slots.{slots_none, part_more, part_rest, slots_kept}
 use Rattle.measure.proofs.payload_of.Statement.{statement}
 use Rattle.measure.proofs.payload_of.Tie as tie
 
-abbrev invariant-loop : tie.invariant-loop
-invariant-loop s q g out₀ m₀ out m =
+abbrev invariant_loop : tie.invariant_loop
+invariant_loop s q g out₀ m₀ out m =
     (m ≤ g) × (length out ≡ length out₀) × (take (496 * m) out ≡ slots s q (16 * m)) ×
     (drop (496 * m) out ≡ drop (496 * m) out₀)
 
-abbrev decreases-loop : tie.decreases-loop
-decreases-loop s q g out₀ m₀ out m = g - m
+abbrev decreases_loop : tie.decreases_loop
+decreases_loop s q g out₀ m₀ out m = g - m
 
-put-multiframe-requires : tie.Need-put-multiframe-requires invariant-loop decreases-loop
-put-multiframe-requires c κs =
+put_multiframe_requires : tie.Need-put-multiframe-requires invariant_loop decreases_loop
+put_multiframe_requires c κs =
     let l = c.before.before in
     let m = l.loop.m in (
       record { countable = l.before.before.before.requires.0.countable; there = omega arith },
       part_length (496 * m) (496 * m + 496) l.loop.out (omega arith) ∙ omega arith,
     )
 
-loop-again : tie.Need-loop-preserved invariant-loop decreases-loop
-loop-again c =
+loop_again : tie.Need-loop-preserved invariant_loop decreases_loop
+loop_again c =
     let w = c.before.before in
     let l = w.before.before.before in
     let a = l.before.before.before.args in
@@ -36,26 +36,26 @@ loop-again c =
     let y = w.put-multiframe.new.1.1.0 in (
       omega arith,
       c.before.out.given.1 ∙ l.loop.invariant.1,
-      part-more a.s.now a.q (16 * m) 16 (496 * m) (496 * m + 496) o y (omega arith) refl (omega arith)
+      part_more a.s.now a.q (16 * m) 16 (496 * m) (496 * m + 496) o y (omega arith) refl (omega arith)
           w.put-multiframe.ensures
           (496 * (m + 1)) (16 * (m + 1)) (omega arith) (omega arith) l.loop.invariant.2,
-      part-rest a.s.now a.q (16 * m) 16 (496 * m) (496 * m + 496) o y (omega arith) refl (omega arith)
+      part_rest a.s.now a.q (16 * m) 16 (496 * m) (496 * m + 496) o y (omega arith) refl (omega arith)
           w.put-multiframe.ensures
           (496 * (m + 1)) a.out.now (omega arith) l.loop.invariant.3,
     )
 
-returns : tie.Need-returns invariant-loop decreases-loop
+returns : tie.Need-returns invariant_loop decreases_loop
 returns c =
     let l = c.before in
     let a = l.before.before.before.args in
     slots_kept a.s.now l.loop.out a.out.now a.q l.loop.m a.g (omega arith) l.loop.invariant.2
     l.loop.invariant.3
 
-pub payload-of-spec : {M : Type 1} → statement M
-payload-of-spec =
+pub payload_of_spec : {M : Type 1} → statement M
+payload_of_spec =
     tie.close
-    (tie.spec invariant-loop decreases-loop
-    (λ c. (omega arith, refl, sym (slots-none c.before.before.args.s.now c.before.before.args.q), refl))
+    (tie.spec invariant_loop decreases_loop
+    (λ c. (omega arith, refl, sym (slots_none c.before.before.args.s.now c.before.before.args.q), refl))
     (omega arith)
     (omega arith)
     (omega arith)
@@ -64,9 +64,9 @@ payload-of-spec =
     (omega arith)
     (omega arith)
     (omega arith)
-    put-multiframe-requires
+    put_multiframe_requires
     (omega arith)
     (omega arith)
-    loop-again
+    loop_again
     (omega arith)
     returns)

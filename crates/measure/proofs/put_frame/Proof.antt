@@ -4,12 +4,12 @@ use mathlib.Core.Path.{◌≡◌, refl, ap, ◌∙◌}
 use native.Mathlib.Omega.{arith}
 use lib.Bits.{bit_and, and_le_r}
 use lib.ListN.{length, take}
-use Rattle.line.specs.Bit.{octetAt}
+use Rattle.line.specs.Bit.{octet_at}
 use Rattle.line.proofs.BitLaws.{place_in}
-use Rattle.base.specs.Tab.{tab, tabFrom}
-use Rattle.base.proofs.PartLaws.{part_length, part-over, octets-full}
+use Rattle.base.specs.Tab.{tab, tab_from}
+use Rattle.base.proofs.PartLaws.{part_length, part_over, octets_full}
 use Rattle.measure.specs.Reading.{slots}
-use Rattle.measure.proofs.Slots.{octetOf}
+use Rattle.measure.proofs.Slots.{octet_of}
 use Rattle.measure.proofs.put_frame.Statement.{statement}
 use Rattle.measure.proofs.put_frame.Tie as tie
 
@@ -17,24 +17,24 @@ use Rattle.measure.proofs.put_frame.Tie as tie
 abbrev octets : ℕ → ℕ
 octets h = 16 * h - (h - 1)
 
-abbrev invariant-loop : tie.invariant-loop
-invariant-loop s q out₀ h₀ out h = (h ≤ 2) × (length out ≡ 31) × (take (octets h) out ≡ tab (octets h) (octetOf s q))
+abbrev invariant_loop : tie.invariant_loop
+invariant_loop s q out₀ h₀ out h = (h ≤ 2) × (length out ≡ 31) × (take (octets h) out ≡ tab (octets h) (octet_of s q))
 
-abbrev decreases-loop : tie.decreases-loop
-decreases-loop s q out₀ h₀ out h = 2 - h
+abbrev decreases_loop : tie.decreases_loop
+decreases_loop s q out₀ h₀ out h = 2 - h
 
-run-in-requires : tie.Need-run-in-requires invariant-loop decreases-loop
-run-in-requires c κs =
+run_in_requires : tie.Need-run-in-requires invariant_loop decreases_loop
+run_in_requires c κs =
     let q = c.before.before.before.before.args.q in (omega (arith, place_in q), omega (arith, and_le_r q 7))
 
-put-run-requires : tie.Need-put-run-requires invariant-loop decreases-loop
-put-run-requires c κs =
+put_run_requires : tie.Need-put-run-requires invariant_loop decreases_loop
+put_run_requires c κs =
     let l = c.before.before.before.loop in
     let a = 15 * l.h in
     part_length a (a + 16) l.out (omega arith) ∙ omega arith
 
-loop-again : tie.Need-loop-preserved invariant-loop decreases-loop
-loop-again c =
+loop_again : tie.Need-loop-preserved invariant_loop decreases_loop
+loop_again c =
     let w = c.before.before in
     let r = w.before.before in
     let l = r.before.before in
@@ -43,36 +43,36 @@ loop-again c =
     let h = l.loop.h in (
       omega arith,
       c.before.out.given.1 ∙ l.loop.invariant.1,
-      part-over (octetOf s q) (λ j. octetAt s (8 * (q / 8 + 15 * h + 1) + bit_and q 7 + 8 * j)) (15 * h) (octets h) 16
+      part_over (octet_of s q) (λ j. octet_at s (8 * (q / 8 + 15 * h + 1) + bit_and q 7 + 8 * j)) (15 * h) (octets h) 16
           (octets (h + 1)) l.loop.out w.put-run.new.1.0 (omega arith) (omega arith) (omega arith)
-          (w.put-run.ensures ∙ r.run_in.ensures) (λ j k. ap (octetAt s) (omega (arith, place_in q))) l.loop.invariant.2,
+          (w.put-run.ensures ∙ r.run_in.ensures) (λ j k. ap (octet_at s) (omega (arith, place_in q))) l.loop.invariant.2,
     )
 
-returns : tie.Need-returns invariant-loop decreases-loop
+returns : tie.Need-returns invariant_loop decreases_loop
 unfolding slots
 returns c =
     let l = c.before in
     let a = l.before.before.before.args in
-    octets-full l.loop.out (octets l.loop.h) 31 (octetOf a.s.now a.q) (omega arith) (omega arith)
+    octets_full l.loop.out (octets l.loop.h) 31 (octet_of a.s.now a.q) (omega arith) (omega arith)
     l.loop.invariant.2
 
-pub put-frame-spec : {M : Type 1} → statement M
-unfolding tabFrom
-put-frame-spec =
+pub put_frame_spec : {M : Type 1} → statement M
+unfolding tab_from
+put_frame_spec =
     tie.close
-    (tie.spec invariant-loop decreases-loop
+    (tie.spec invariant_loop decreases_loop
     (λ c. (omega arith, omega arith, refl))
     (omega arith)
     (omega arith)
     (omega arith)
-    run-in-requires
+    run_in_requires
     (omega arith)
     (omega arith)
     (omega arith)
     (omega arith)
-    put-run-requires
+    put_run_requires
     (omega arith)
     (omega arith)
-    loop-again
+    loop_again
     (omega arith)
     returns)

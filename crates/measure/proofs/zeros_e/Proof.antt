@@ -9,8 +9,8 @@ use Rattle.measure.proofs.zeros_e.Tie as tie
 returns : tie.Need-returns
 returns c = (ap₂ (λ a b. (1 - a) + (1 - b)) c.before.bit.ensures.0 c.bit2.ensures.0, omega arith)
 
-pub zeros-e-spec : {M : Type 1} → statement M
-zeros-e-spec =
+pub zeros_e_spec : {M : Type 1} → statement M
+zeros_e_spec =
     tie.close
     (tie.spec (search rules) (search rules) (search rules) (search rules) (search rules)
     (search rules) (search rules) (search rules) (search rules) (search rules)

@@ -4,15 +4,15 @@ use borrow.Author.Rules.{rules}
 use Rattle.phones.proofs.print_ten.Statement.{statement}
 use Rattle.phones.proofs.print_ten.Tie as tie
 
-abbrev invariant-loop : tie.invariant-loop
-invariant-loop abcd m k ok₀ c₀ t8 c-end ok c = (c ≤ c-end) × (c-end ≤ 30)
+abbrev invariant_loop : tie.invariant_loop
+invariant_loop abcd m k ok₀ c₀ t8 c-end ok c = (c ≤ c-end) × (c-end ≤ 30)
 
-abbrev decreases-loop : tie.decreases-loop
-decreases-loop abcd m k ok₀ c₀ t8 c-end ok c = c-end - c
+abbrev decreases_loop : tie.decreases_loop
+decreases_loop abcd m k ok₀ c₀ t8 c-end ok c = c-end - c
 
-pub print-ten-spec : {M : Type 1} → statement M
-print-ten-spec =
+pub print_ten_spec : {M : Type 1} → statement M
+print_ten_spec =
     tie.close
-    (tie.spec invariant-loop decreases-loop
+    (tie.spec invariant_loop decreases_loop
     (search rules) (search rules) (search rules) (search rules) (search rules) (search rules) (search rules) (search rules)
     (search rules) (search rules) (search rules) (search rules) (search rules) (search rules) (search rules) (search rules))

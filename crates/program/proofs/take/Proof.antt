@@ -7,16 +7,16 @@ use lib.ListN.{length, length-take}
 use Rattle.program.proofs.take.Statement.{statement}
 use Rattle.program.proofs.take.Tie as tie
 
-abbrev invariant-loop : tie.invariant-loop
-invariant-loop fd room₀ n₀ room n = (n ≤ length room) × (length room ≡ length room₀)
+abbrev invariant_loop : tie.invariant_loop
+invariant_loop fd room₀ n₀ room n = (n ≤ length room) × (length room ≡ length room₀)
 
-abbrev decreases-loop : tie.decreases-loop
-decreases-loop fd room₀ n₀ room n = length room - n
+abbrev decreases_loop : tie.decreases_loop
+decreases_loop fd room₀ n₀ room n = length room - n
 
 pub take_spec : {M : Type 1} → statement M
 take_spec =
     tie.close
-    (tie.spec invariant-loop decreases-loop
+    (tie.spec invariant_loop decreases_loop
     (search rules) (search rules) (search rules) (search rules) (search rules)
     (search rules)
     (λ c. simp length-take (omega arith))

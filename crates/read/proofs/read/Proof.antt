@@ -8,7 +8,7 @@ use borrow.Author.Tests.{ltb-false}
 use lib.Dec.{ltb}
 use lib.ListN.{length}
 use Rattle.measure.specs.Reading.{disagreeing, errored}
-use Rattle.read.proofs.Measures.{Places, places, unplaced-read, short-read, answered}
+use Rattle.read.proofs.Measures.{Places, places, unplaced_read, short_read, answered}
 use Rattle.read.proofs.read.Statement.{statement}
 use Rattle.read.proofs.read.Tie as tie
 
@@ -21,7 +21,7 @@ returns c =
     let l = c.before.before.before in
     let a = (start l).args in
     rw c.refused.ensures
-    (unplaced-read a.image.now l.locate.result l.locate.ensures c.before.if1.true a.payload.now a.slot0.now)
+    (unplaced_read a.image.now l.locate.result l.locate.ensures c.before.if1.true a.payload.now a.slot0.now)
 
 -- a place stands
 there : (c : tie.Else1) → Places (start c.before.before).args.image.now c.before.before.locate.result
@@ -29,13 +29,13 @@ there c =
     let l = c.before.before in
     places (start l).args.image.now l.locate.result l.locate.ensures c.if1.false
 
-returns-2 : tie.Need-returns-2
-returns-2 c =
+returns_2 : tie.Need-returns-2
+returns_2 c =
     let e = c.before.before in
     let l = e.before.before in
     let a = (start l).args in
     rw c.refused2.ensures
-    ((short-read a.image.now l.locate.result l.locate.ensures e.if1.false a.payload.now a.slot0.now).0 c.before.if2.true)
+    ((short_read a.image.now l.locate.result l.locate.ensures e.if1.false a.payload.now a.slot0.now).0 c.before.if2.true)
 
 -- the outputs have room
 fits : (c : tie.Else2)
@@ -49,14 +49,14 @@ fits c =
     (ltb-false _ _ f.0, ltb-false _ _ f.1)
 
 -- the blocks that are compared, and the one after them, are there
-judge-requires : tie.Need-judge-requires
-judge-requires c κs =
+judge_requires : tie.Need-judge-requires
+judge_requires c κs =
     let h = there c.before.before in
     λ l. record { countable = h.room.countable; there = omega (arith, c.compared.ensures, h.room.there) }
 
-returns-3 : tie.Need-returns-3
+returns_3 : tie.Need-returns-3
 unfolding errored
-returns-3 c =
+returns_3 c =
     let z = c.before.before in
     let y = z.before.before.before.before in
     let f = y.before.before in
@@ -66,14 +66,14 @@ returns-3 c =
     let l = e.before.before.before in
     let a = (start l).args in
     answered a.image.now l.locate.result l.locate.ensures e.before.if1.false a.payload.now a.slot0.now _ _ _
-    ((short-read a.image.now l.locate.result l.locate.ensures e.before.if1.false a.payload.now a.slot0.now).1 e.if2.false)
+    ((short_read a.image.now l.locate.result l.locate.ensures e.before.if1.false a.payload.now a.slot0.now).1 e.if2.false)
     refl refl refl refl refl refl refl
     n.compared.ensures
     (j.judge.ensures ∙ ap (disagreeing a.image.now l.locate.result.start) n.compared.ensures)
-    f.far-end.ensures
+    f.far_end_errors.ensures
     refl refl
     y.payload-of.ensures
-    z.slot0-of.ensures
+    z.slot0_of_lem.ensures
 
 pub read_spec : {M : Type 1} → statement M
 read_spec =
@@ -85,12 +85,12 @@ read_spec =
     (λ c. omega (arith, (there c).few))
     (λ c. omega (arith, (there c).few))
     (search rules)
-    returns-2
+    returns_2
     (λ c κs. omega (arith, (there c.before).few))
-    judge-requires
+    judge_requires
     (λ c κs. (there c.before.before.before).room)
     (λ c κs. let e = c.before.before.before.before in ((there e.before).room, (fits e).0))
     (λ c κs. let e = c.before.before.before.before.before.before.before.before in ((there e.before).room, (fits e).1))
     (search rules)
     (search rules)
-    returns-3)
+    returns_3)

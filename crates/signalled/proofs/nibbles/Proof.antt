@@ -8,17 +8,17 @@ use borrow.Author.Tests.{eq-eqb, ne_eqb, ltb-true, ltb-false, le-leb, lt-leb}
 use lib.Dec.{leb, ltb}
 use lib.ListN.{length, get_or}
 use Rattle.base.specs.Tab.{all}
-use Rattle.base.proofs.TabLaws.{all_more, all-fails}
+use Rattle.base.proofs.TabLaws.{all_more, all_fails}
 use Rattle.signalled.specs.Slot16.{nibbles}
 use Rattle.signalled.proofs.Laws.{within}
 use Rattle.signalled.proofs.nibbles.Statement.{statement}
 use Rattle.signalled.proofs.nibbles.Tie as tie
 
-abbrev invariant-loop : tie.invariant-loop
-invariant-loop octets n low i₀ i = (i ≤ n) × (length octets ≡ n) × (all i (within low octets) ≡ true)
+abbrev invariant_loop : tie.invariant_loop
+invariant_loop octets n low i₀ i = (i ≤ n) × (length octets ≡ n) × (all i (within low octets) ≡ true)
 
-abbrev decreases-loop : tie.decreases-loop
-decreases-loop octets n low i₀ i = n - i
+abbrev decreases_loop : tie.decreases_loop
+decreases_loop octets n low i₀ i = n - i
 
 -- one that is too small or too large, and one that is neither
 outside : (low x : ℕ) (b : Bool) → (b ≡ true → leb x 15 ≡ false) → ltb x low || b ≡ true → leb low x && leb x 15 ≡ false
@@ -32,18 +32,18 @@ outside low x b h t = go (ltb x low) b refl h t
     go true b e h t = rw (lt-leb low x (ltb-true x low e))
     go false b e h t = rw (h t) (and_no (leb low x))
 
-returns-2 : tie.Need-returns-2 invariant-loop decreases-loop
+returns_2 : tie.Need-returns-2 invariant_loop decreases_loop
 unfolding nibbles
-returns-2 c =
+returns_2 c =
     let l = c.before.before.before in
     let a = l.before.before.args in
     let o = a.octets.now in
     let x = get_or o l.loop.i 0 in
     let t = outside a.low x _ (λ h. lt-leb x 15 (omega (arith, ltb-true _ x h))) c.if2.true in
-    sym (ap₂ ◌&&◌ (eq-eqb _ _ l.loop.invariant.1) (all-fails a.n (within a.low o) l.loop.i (omega arith) t))
+    sym (ap₂ ◌&&◌ (eq-eqb _ _ l.loop.invariant.1) (all_fails a.n (within a.low o) l.loop.i (omega arith) t))
 
-loop-again : tie.Need-loop-preserved invariant-loop decreases-loop
-loop-again c =
+loop_again : tie.Need-loop-preserved invariant_loop decreases_loop
+loop_again c =
     let l = c.before.before.before in
     let a = l.before.before.args in
     let o = a.octets.now in
@@ -54,9 +54,9 @@ loop-again c =
     let t : within a.low o l.loop.i ≡ true = ap₂ ◌&&◌ (le-leb a.low x (omega arith)) (le-leb x 15 (omega arith)) in
     (omega arith, l.loop.invariant.1, all_more l.loop.i (within a.low o) l.loop.invariant.2 t)
 
-returns-3 : tie.Need-returns-3 invariant-loop decreases-loop
+returns_3 : tie.Need-returns-3 invariant_loop decreases_loop
 unfolding nibbles
-returns-3 c =
+returns_3 c =
     let l = c.before in
     let a = l.before.before.args in
     let o = a.octets.now in
@@ -64,11 +64,11 @@ returns-3 c =
     let e : a.n ≡ l.loop.i = omega arith in
     sym (ap₂ ◌&&◌ (eq-eqb _ _ i.1) (ap (λ n. all n (within a.low o)) e ∙ i.2))
 
-pub nibbles-spec : {M : Type 1} → statement M
+pub nibbles_spec : {M : Type 1} → statement M
 unfolding nibbles all
-nibbles-spec =
+nibbles_spec =
     tie.close
-    (tie.spec invariant-loop decreases-loop
+    (tie.spec invariant_loop decreases_loop
     (λ c. simp (ne_eqb _ _ c.if1.true))
     (λ c. (omega arith, omega arith, refl))
-    (omega arith) returns-2 (omega arith) (omega arith) loop-again returns-3)
+    (omega arith) returns_2 (omega arith) (omega arith) loop_again returns_3)

@@ -7,14 +7,14 @@ use Rattle.base.proofs.PartLaws.{copy_more, copy_done}
 use Rattle.signalled.proofs.with_slot16.Statement.{statement}
 use Rattle.signalled.proofs.with_slot16.Tie as tie
 
-abbrev invariant-loop : tie.invariant-loop
-invariant-loop payload x octets₀ j₀ octets j = (j ≤ 31) × (length octets ≡ 31) × (take j octets ≡ take j payload)
+abbrev invariant_loop : tie.invariant_loop
+invariant_loop payload x octets₀ j₀ octets j = (j ≤ 31) × (length octets ≡ 31) × (take j octets ≡ take j payload)
 
-abbrev decreases-loop : tie.decreases-loop
-decreases-loop payload x octets₀ j₀ octets j = 31 - j
+abbrev decreases_loop : tie.decreases_loop
+decreases_loop payload x octets₀ j₀ octets j = 31 - j
 
-loop-again : tie.Need-loop-preserved invariant-loop decreases-loop
-loop-again c =
+loop_again : tie.Need-loop-preserved invariant_loop decreases_loop
+loop_again c =
     let l = c.before.before.loop in
     let payload = c.before.before.before.args.payload.now in (
       omega arith,
@@ -22,15 +22,15 @@ loop-again c =
       copy_more l.octets payload l.j (omega arith) (omega arith) l.invariant.2,
     )
 
-returns : tie.Need-returns invariant-loop decreases-loop
+returns : tie.Need-returns invariant_loop decreases_loop
 returns c =
     let l = c.before.loop in
     let a = c.before.before.args in
     ap (λ o. set o 15 a.x) (copy_done l.octets a.payload.now l.j (omega arith) (omega arith) l.invariant.2)
 
-pub with-slot16-spec : {M : Type 1} → statement M
-with-slot16-spec =
+pub with_slot16_spec : {M : Type 1} → statement M
+with_slot16_spec =
     tie.close
-    (tie.spec invariant-loop decreases-loop
+    (tie.spec invariant_loop decreases_loop
     (λ c. (omega arith, refl, refl))
-    (omega arith) (omega arith) (omega arith) (omega arith) loop-again (omega arith) returns)
+    (omega arith) (omega arith) (omega arith) (omega arith) loop_again (omega arith) returns)

@@ -7,46 +7,46 @@ use native.Mathlib.Omega.{arith}
 use lib.ListN.{length, get_or, take, drop}
 use Rattle.base.proofs.PartLaws.{part_length}
 use Rattle.write.specs.Writing.{carries, written}
-use Rattle.write.proofs.Laws.{carries-lt}
-use Rattle.write.proofs.Parts.{payloadPart, overheadPart, part-inputs, all_more, all_done}
-use Rattle.signalled.specs.Slot16.{withSlot16}
-use Rattle.signalled.proofs.Parts.{abcdPart, part-with, part-given}
+use Rattle.write.proofs.Laws.{carries_lt}
+use Rattle.write.proofs.Parts.{payload_part, overhead_part, part_inputs, all_more, all_done}
+use Rattle.signalled.specs.Slot16.{with_slot16}
+use Rattle.signalled.proofs.Parts.{abcd_part, part_with, part_given}
 use Rattle.signalled.proofs.write_all.Statement.{statement}
 use Rattle.signalled.proofs.write_all.Tie as tie
 
-abbrev invariant-loop : tie.invariant-loop
-invariant-loop payload overhead k xy abcd out₀ table c₀ m₀ m-end out c m =
+abbrev invariant_loop : tie.invariant_loop
+invariant_loop payload overhead k xy abcd out₀ table c₀ m₀ m-end out c m =
     (m ≤ length xy) × (m-end ≡ length xy) × (length out ≡ length out₀)
-    × (c ≡ carries (withSlot16 payload xy abcd) overhead k (2 * m))
-    × (take (512 * m) out ≡ written (withSlot16 payload xy abcd) overhead k (2 * m))
+    × (c ≡ carries (with_slot16 payload xy abcd) overhead k (2 * m))
+    × (take (512 * m) out ≡ written (with_slot16 payload xy abcd) overhead k (2 * m))
     × (drop (512 * m) out ≡ drop (512 * m) out₀)
 
-abbrev decreases-loop : tie.decreases-loop
-decreases-loop payload overhead k xy abcd out₀ table c₀ m₀ m-end out c m = length xy - m
+abbrev decreases_loop : tie.decreases_loop
+decreases_loop payload overhead k xy abcd out₀ table c₀ m₀ m-end out c m = length xy - m
 
-loop-holds : tie.Need-loop-init invariant-loop decreases-loop
+loop_holds : tie.Need-loop-init invariant_loop decreases_loop
 unfolding written carries
-loop-holds c = (omega arith, refl, refl, refl, refl, refl)
+loop_holds c = (omega arith, refl, refl, refl, refl, refl)
 
-write-multiframe-requires : tie.Need-write-multiframe-requires invariant-loop decreases-loop
-write-multiframe-requires c κs =
+write_multiframe_requires : tie.Need-write-multiframe-requires invariant_loop decreases_loop
+write_multiframe_requires c κs =
     let l = c.before.before.before.before.before.before.before in
     let s = l.before.before.before.before.before.before.before in
     let a = s.args in
     let m = l.loop.m in
     let n = length a.xy.now in
-    let q = withSlot16 a.payload.now a.xy.now a.abcd.now in
-    let lt : l.loop.c < 16 = rw l.loop.invariant.3 (carries-lt q a.overhead.now a.k (2 * m) s.requires.0.four-bits) in
+    let q = with_slot16 a.payload.now a.xy.now a.abcd.now in
+    let lt : l.loop.c < 16 = rw l.loop.invariant.3 (carries_lt q a.overhead.now a.k (2 * m) s.requires.0.four_bits) in
     let part : length (take (512 * m + 512 - 512 * m) (drop (512 * m) l.loop.out)) ≡ 512
     = part_length (512 * m) (512 * m + 512) l.loop.out (omega (arith, s.requires.3)) ∙ omega arith in (
-      part-inputs a.payload.now a.overhead.now a.k n m l.loop.c s.requires.0 (omega arith) lt,
-      part-given a.xy.now a.abcd.now n m _ s.requires.1 (omega arith),
+      part_inputs a.payload.now a.overhead.now a.k n m l.loop.c s.requires.0 (omega arith) lt,
+      part_given a.xy.now a.abcd.now n m _ s.requires.1 (omega arith),
       part,
       l.before.remainders.ensures,
     )
 
-loop-again : tie.Need-loop-preserved invariant-loop decreases-loop
-loop-again c =
+loop_again : tie.Need-loop-preserved invariant_loop decreases_loop
+loop_again c =
     let w = c.before.before in
     let x = w.before.before.before.before.before.before.before in
     let l = x.before in
@@ -54,37 +54,37 @@ loop-again c =
     let a = s.args in
     let m = l.loop.m in
     let i = l.loop.invariant in
-    let q = withSlot16 a.payload.now a.xy.now a.abcd.now in
-    let h = overheadPart m a.overhead.now in
-    let r = withSlot16 (payloadPart m a.payload.now) (get_or a.xy.now m 0 ∷ []) (abcdPart m a.abcd.now) in
+    let q = with_slot16 a.payload.now a.xy.now a.abcd.now in
+    let h = overhead_part m a.overhead.now in
+    let r = with_slot16 (payload_part m a.payload.now) (get_or a.xy.now m 0 ∷ []) (abcd_part m a.abcd.now) in
     let ys = w.write-multiframe.new.1.1.1.1.1.0 in
     let z : (ys ≡ written r h l.loop.c 2) × (w.write-multiframe.result ≡ carries r h l.loop.c 2) = w.write-multiframe.ensures in
-    let e : r ≡ payloadPart m q =
-    sym (part-with a.xy.now a.abcd.now m a.payload.now (omega (arith, x.loop-test.true, s.requires.0.payload-length))) in
+    let e : r ≡ payload_part m q =
+    sym (part_with a.xy.now a.abcd.now m a.payload.now (omega (arith, x.loop-test.true, s.requires.0.payload_length))) in
     let n = all_more q a.overhead.now a.k m l.loop.c w.write-multiframe.result l.loop.out ys a.out.now
     (omega (arith, s.requires.3)) i.3 (z.0 ∙ ap (λ p. written p h l.loop.c 2) e) (z.1 ∙ ap (λ p. carries p h l.loop.c 2) e)
     i.4 i.5 in
     (omega arith, refl, omega (arith, c.before.out.given.1), n.2, n.0, n.1)
 
-returns : tie.Need-returns invariant-loop decreases-loop
+returns : tie.Need-returns invariant_loop decreases_loop
 returns c =
     let l = c.before in
     let a = l.before.before.before.before.before.before.before.args in
     let i = l.loop.invariant in
-    all_done (withSlot16 a.payload.now a.xy.now a.abcd.now) a.overhead.now a.k l.loop.m (length a.xy.now)
+    all_done (with_slot16 a.payload.now a.xy.now a.abcd.now) a.overhead.now a.k l.loop.m (length a.xy.now)
     l.loop.c l.loop.out a.out.now
     (omega arith) i.3 i.4 i.5
 
-pub write-all-spec : {M : Type 1} → statement M
-write-all-spec =
+pub write_all_spec : {M : Type 1} → statement M
+write_all_spec =
     tie.close
-    (tie.spec invariant-loop decreases-loop
+    (tie.spec invariant_loop decreases_loop
     (λ c κs. tt)
-    loop-holds
+    loop_holds
     (omega arith) (omega arith) (omega arith) (omega arith)
     (omega arith) (omega arith) (omega arith) (omega arith)
     (omega arith) (omega arith) (omega arith) (omega arith)
     (omega arith)
     (omega arith) (omega arith) (omega arith) (omega arith)
     (omega arith) (omega arith) (omega arith) (omega arith)
-    write-multiframe-requires (omega arith) (omega arith) loop-again (omega arith) returns)
+    write_multiframe_requires (omega arith) (omega arith) loop_again (omega arith) returns)

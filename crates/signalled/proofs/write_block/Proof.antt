@@ -5,36 +5,36 @@ use mathlib.Core.List.{[], ◌∷◌}
 use native.Mathlib.Omega.{arith}
 use borrow.Author.Rules.{rules}
 use lib.ListN.{length, take, set}
-use Rattle.base.specs.Tab.{tab, tabFrom}
+use Rattle.base.specs.Tab.{tab, tab_from}
 use Rattle.e1.specs.Block.{carried}
-use Rattle.write.proofs.Laws.{overhead-lt, block-carries}
-use Rattle.write.proofs.Parts.{part, frameOctet, blockOctet, block_more, block-done}
-use Rattle.signalled.specs.Slot16.{slot16, withSlot16}
-use Rattle.signalled.proofs.Parts.{frame-with}
+use Rattle.write.proofs.Laws.{overhead_lt, block_carries}
+use Rattle.write.proofs.Parts.{part, frame_octet, block_octet, block_more, block_done}
+use Rattle.signalled.specs.Slot16.{slot16, with_slot16}
+use Rattle.signalled.proofs.Parts.{frame_with}
 use Rattle.signalled.proofs.write_block.Statement.{statement}
 use Rattle.signalled.proofs.write_block.Tie as tie
 
-abbrev invariant-loop : tie.invariant-loop
-invariant-loop payload overhead k xy abcd b out₀ table i₀ out i =
-    (i ≤ 8) × (length out ≡ 256) × (take (32 * i) out ≡ tab (32 * i) (blockOctet (withSlot16 payload (xy ∷ []) abcd) overhead k b))
+abbrev invariant_loop : tie.invariant_loop
+invariant_loop payload overhead k xy abcd b out₀ table i₀ out i =
+    (i ≤ 8) × (length out ≡ 256) × (take (32 * i) out ≡ tab (32 * i) (block_octet (with_slot16 payload (xy ∷ []) abcd) overhead k b))
 
-abbrev decreases-loop : tie.decreases-loop
-decreases-loop payload overhead k xy abcd b out₀ table i₀ out i = 8 - i
+abbrev decreases_loop : tie.decreases_loop
+decreases_loop payload overhead k xy abcd b out₀ table i₀ out i = 8 - i
 
-loop-holds : tie.Need-loop-init invariant-loop decreases-loop
-unfolding tabFrom
-loop-holds c = (omega arith, omega arith, refl)
+loop_holds : tie.Need-loop-init invariant_loop decreases_loop
+unfolding tab_from
+loop_holds c = (omega arith, omega arith, refl)
 
-slot-0-requires : tie.Need-slot-0-requires invariant-loop decreases-loop
-slot-0-requires c κs =
+slot_0_requires : tie.Need-slot-0-requires invariant_loop decreases_loop
+slot_0_requires c κs =
     let l = c.before.before in
-    let s = l.before.before.before.before.before in overhead-lt s.requires.0 ((8 * s.args.b + l.loop.i) / 2)
+    let s = l.before.before.before.before.before in overhead_lt s.requires.0 ((8 * s.args.b + l.loop.i) / 2)
 
-slot-16-requires : tie.Need-slot-16-requires invariant-loop decreases-loop
-slot-16-requires c κs = let s = c.before.before.before.before.before.before.before.before.before in (s.requires.1, omega arith)
+slot_16_requires : tie.Need-slot-16-requires invariant_loop decreases_loop
+slot_16_requires c κs = let s = c.before.before.before.before.before.before.before.before.before in (s.requires.1, omega arith)
 
-loop-again : tie.Need-loop-preserved invariant-loop decreases-loop
-loop-again c =
+loop_again : tie.Need-loop-preserved invariant_loop decreases_loop
+loop_again c =
     let w = c.before.before in
     let x = w.before.before.before in
     let y = x.before in
@@ -44,47 +44,47 @@ loop-again c =
     let a = t.args in
     let f = 8 * a.b + l.loop.i in
     let g = 31 * f in
-    let q = withSlot16 a.payload.now (a.xy ∷ []) a.abcd.now in
-    let z : y.slot-16.result ≡ slot16 (a.xy ∷ []) a.abcd.now f = y.slot-16.ensures in
-    let e : x.with-slot16.result ≡ part g (g + 31) q =
-    x.with-slot16.ensures ∙ ap (set (part g (g + 31) a.payload.now) 15) z
-    ∙ sym (frame-with a.payload.now (a.xy ∷ []) a.abcd.now f (omega (arith, t.requires.0.payload-length))) in (
+    let q = with_slot16 a.payload.now (a.xy ∷ []) a.abcd.now in
+    let z : y.slot_16.result ≡ slot16 (a.xy ∷ []) a.abcd.now f = y.slot_16.ensures in
+    let e : x.with_slot16_lem.result ≡ part g (g + 31) q =
+    x.with_slot16_lem.ensures ∙ ap (set (part g (g + 31) a.payload.now) 15) z
+    ∙ sym (frame_with a.payload.now (a.xy ∷ []) a.abcd.now f (omega (arith, t.requires.0.payload_length))) in (
       omega arith,
       omega (arith, c.before.out.given.1),
       block_more q a.overhead.now a.k a.b l.loop.i s.slot-0.result l.loop.out
           w.write-frame.new.1.1.0
-          (omega arith) s.slot-0.ensures (w.write-frame.ensures ∙ ap (λ o. tab 32 (frameOctet s.slot-0.result o)) e) l.loop.invariant.2,
+          (omega arith) s.slot-0.ensures (w.write-frame.ensures ∙ ap (λ o. tab 32 (frame_octet s.slot-0.result o)) e) l.loop.invariant.2,
     )
 
 -- the block that is written carries k
-block-check-requires : tie.Need-block-check-requires invariant-loop decreases-loop
-block-check-requires c κs =
+block_check_requires : tie.Need-block-check-requires invariant_loop decreases_loop
+block_check_requires c κs =
     let l = c.before.before in
     let s = l.before.before.before.before.before in
     let a = s.args in
-    let q = withSlot16 a.payload.now (a.xy ∷ []) a.abcd.now in
-    let e = block-done q a.overhead.now a.k a.b l.loop.i l.loop.out (omega arith)
+    let q = with_slot16 a.payload.now (a.xy ∷ []) a.abcd.now in
+    let e = block_done q a.overhead.now a.k a.b l.loop.i l.loop.out (omega arith)
     l.loop.invariant.1 l.loop.invariant.2 in
-    let k = block-carries q a.overhead.now a.k a.b s.requires.0.four-bits in
+    let k = block_carries q a.overhead.now a.k a.b s.requires.0.four_bits in
     (search rules, sym (ap (λ out. carried out 0) e ∙ k), s.requires.4)
 
-returns : tie.Need-returns invariant-loop decreases-loop
+returns : tie.Need-returns invariant_loop decreases_loop
 returns c =
     let l = c.before.before.before in
     let a = l.before.before.before.before.before.args in
-    let q = withSlot16 a.payload.now (a.xy ∷ []) a.abcd.now in (
-      block-done q a.overhead.now a.k a.b l.loop.i l.loop.out (omega arith) l.loop.invariant.1 l.loop.invariant.2,
+    let q = with_slot16 a.payload.now (a.xy ∷ []) a.abcd.now in (
+      block_done q a.overhead.now a.k a.b l.loop.i l.loop.out (omega arith) l.loop.invariant.1 l.loop.invariant.2,
       c.block-check.ensures,
     )
 
-pub write-block-spec : {M : Type 1} → statement M
-write-block-spec =
+pub write_block_spec : {M : Type 1} → statement M
+write_block_spec =
     tie.close
-    (tie.spec invariant-loop decreases-loop
-    loop-holds (omega arith) (omega arith) (omega arith) slot-0-requires (omega arith)
+    (tie.spec invariant_loop decreases_loop
+    loop_holds (omega arith) (omega arith) (omega arith) slot_0_requires (omega arith)
     (omega arith) (omega arith) (omega arith) (omega arith)
-    slot-16-requires
+    slot_16_requires
     (λ c κs. search rules)
     (omega arith) (search rules) (omega arith) (omega arith) (omega arith) (omega arith)
-    (λ c κs. (search rules, search rules)) (omega arith) (omega arith) loop-again
-    block-check-requires (omega arith) returns)
+    (λ c κs. (search rules, search rules)) (omega arith) (omega arith) loop_again
+    block_check_requires (omega arith) returns)

@@ -7,7 +7,7 @@ use Rattle.e1.specs.Payload.{multiframes}
 use Rattle.write.proofs.Calls.{Fits}
 use Rattle.signalled.specs.Given.{Given}
 use Rattle.signalled.specs.Entry.{refusal}
-use Rattle.signalled.proofs.Calls.{accepted-call, accepted-fits, refused, taken}
+use Rattle.signalled.proofs.Calls.{accepted_call, accepted_fits, refused, taken}
 use Rattle.signalled.proofs.write_signalled.Statement.{statement}
 use Rattle.signalled.proofs.write_signalled.Tie as tie
 
@@ -19,17 +19,17 @@ sound : (c : tie.Else1)
     → (let a = (start c.before).args in refusal a.payload.now a.overhead.now a.check a.xy.now a.abcd.now (length a.out.now) ≡ 0)
 sound c = sym c.before.refusal.ensures ∙ c.if1.false
 
-its-inputs : (c : tie.Else1)
+its_inputs : (c : tie.Else1)
     → (let a = (start c.before).args in Fits a.payload.now a.overhead.now a.check (length a.out.now))
-its-inputs c =
+its_inputs c =
     let a = (start c.before).args in
-    accepted-fits a.payload.now a.overhead.now a.check a.xy.now a.abcd.now (length a.out.now) (sound c)
+    accepted_fits a.payload.now a.overhead.now a.check a.xy.now a.abcd.now (length a.out.now) (sound c)
 
-its-signals : (c : tie.Else1)
+its_signals : (c : tie.Else1)
     → (let a = (start c.before).args in Given a.xy.now a.abcd.now (multiframes a.payload.now))
-its-signals c =
+its_signals c =
     let a = (start c.before).args in
-    (accepted-call a.payload.now a.overhead.now a.check a.xy.now a.abcd.now (length a.out.now) (sound c)).0
+    (accepted_call a.payload.now a.overhead.now a.check a.xy.now a.abcd.now (length a.out.now) (sound c)).0
 
 returns : tie.Need-returns
 returns c =
@@ -38,24 +38,24 @@ returns c =
     refused a.payload.now a.overhead.now a.check a.xy.now a.abcd.now a.out.now r.result r.ensures
     c.if1.true
 
-write-all-requires : tie.Need-write-all-requires
-write-all-requires c κs =
-    let k = its-inputs c.before in
-    let g = its-signals c.before in
-    rw g.its-xy.long (k.inputs, g, k.most, k.room)
+write_all_requires : tie.Need-write-all-requires
+write_all_requires c κs =
+    let k = its_inputs c.before in
+    let g = its_signals c.before in
+    rw g.its_xy.long (k.inputs, g, k.most, k.room)
 
-returns-2 : tie.Need-returns-2
-returns-2 c =
+returns_2 : tie.Need-returns-2
+returns_2 c =
     let w = c.before.before.write-all in
     let e = c.before.before.before.before in
     let r = e.before.refusal in
     let a = (start e.before).args in
-    let n = (its-signals e).its-xy.long in
+    let n = (its_signals e).its_xy.long in
     taken a.payload.now a.overhead.now a.check a.xy.now a.abcd.now a.out.now r.result r.ensures
     w.result w.new.1.1.1.1.1.0 e.if1.false (rw n at w.ensures.1) (rw n at w.ensures.0)
 
-pub write-signalled-spec : {M : Type 1} → statement M
-write-signalled-spec =
+pub write_signalled_spec : {M : Type 1} → statement M
+write_signalled_spec =
     tie.close
-    (tie.spec (search rules) returns (λ c. omega (arith, (its-inputs c).inputs.four-bits)) write-all-requires (search rules) (search rules)
-    returns-2)
+    (tie.spec (search rules) returns (λ c. omega (arith, (its_inputs c).inputs.four_bits)) write_all_requires (search rules) (search rules)
+    returns_2)

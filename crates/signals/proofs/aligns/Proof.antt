@@ -6,7 +6,7 @@ use borrow.Author.Rules.{rules}
 use lib.Dec.{eqb}
 use lib.ListN.{get_or}
 use Rattle.signals.specs.Signalling.{aligns}
-use Rattle.signals.proofs.Laws.{aligns-later}
+use Rattle.signals.proofs.Laws.{aligns_later}
 use Rattle.signals.proofs.aligns.Statement.{statement}
 use Rattle.signals.proofs.aligns.Tie as tie
 
@@ -14,11 +14,11 @@ returns : tie.Need-returns
 unfolding aligns
 returns c = sym (ap (aligns c.before.before.args.t.now) c.if1.true)
 
-returns-2 : tie.Need-returns-2
-returns-2 c =
+returns_2 : tie.Need-returns-2
+returns_2 c =
     let a = c.before.before.before.before.args in
-    ap (λ b. b && not (eqb (get_or a.t.now (a.f - 1) 0) 0)) c.before.signal-at.ensures
-    ∙ aligns-later a.t.now a.f c.before.before.if1.false
+    ap (λ b. b && not (eqb (get_or a.t.now (a.f - 1) 0) 0)) c.before.signal_at_lem.ensures
+    ∙ aligns_later a.t.now a.f c.before.before.if1.false
 
-pub aligns-spec : {M : Type 1} → statement M
-aligns-spec = tie.close (tie.spec returns (search rules) (search rules) (search rules) returns-2)
+pub aligns_spec : {M : Type 1} → statement M
+aligns_spec = tie.close (tie.spec returns (search rules) (search rules) (search rules) returns_2)

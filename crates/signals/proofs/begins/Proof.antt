@@ -10,12 +10,12 @@ returns : tie.Need-returns
 unfolding begins
 returns c =
     let a = c.before.before.before.args in
-    ap (λ b. not (a.wrong && not b)) c.signal-at.ensures
+    ap (λ b. not (a.wrong && not b)) c.signal_at_lem.ensures
     ∙ sym (ap (λ h. begins a.t.now a.f h a.wrong) c.before.if1.true)
 
-returns-2 : tie.Need-returns-2
+returns_2 : tie.Need-returns-2
 unfolding begins
-returns-2 c = rw (c.before.if1.false, c.aligns.ensures)
+returns_2 c = rw (c.before.if1.false, c.aligns.ensures)
 
-pub begins-spec : {M : Type 1} → statement M
-begins-spec = tie.close (tie.spec (search rules) returns (search rules) returns-2)
+pub begins_spec : {M : Type 1} → statement M
+begins_spec = tie.close (tie.spec (search rules) returns (search rules) returns_2)

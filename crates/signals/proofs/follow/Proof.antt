@@ -6,69 +6,69 @@ use mathlib.Core.Logic.{⊎_elim, inl, inr}
 use native.Mathlib.Omega.{arith}
 use borrow.Author.Tests.{eq-eqb, ne_eqb}
 use lib.ListN.{length}
-use Rattle.signals.specs.Signalling.{firstIn}
+use Rattle.signals.specs.Signalling.{first_in}
 use Rattle.signals.specs.Follow.{begins}
-use Rattle.signals.proofs.Through.{Through, none-through, first-now, through-more, through-cut, through-lost, through-all}
+use Rattle.signals.proofs.Through.{Through, none_through, first_now, through_more, through_cut, through_lost, through_all}
 use Rattle.signals.proofs.follow.Statement.{statement}
 use Rattle.signals.proofs.follow.Tie as tie
 
-abbrev invariant-loop : tie.invariant-loop
-invariant-loop t multiframes₀ starts₀ first₀ losses₀ held₀ wrong₀ f₀ multiframes starts first losses held wrong f =
+abbrev invariant_loop : tie.invariant_loop
+invariant_loop t multiframes₀ starts₀ first₀ losses₀ held₀ wrong₀ f₀ multiframes starts first losses held wrong f =
     Through t multiframes starts first losses held wrong f × (f ≤ length t)
 
-abbrev decreases-loop : tie.decreases-loop
-decreases-loop t multiframes₀ starts₀ first₀ losses₀ held₀ wrong₀ f₀ multiframes starts first losses held wrong f = length t - f
+abbrev decreases_loop : tie.decreases_loop
+decreases_loop t multiframes₀ starts₀ first₀ losses₀ held₀ wrong₀ f₀ multiframes starts first losses held wrong f = length t - f
 
 -- frame f, with which a signalling multiframe begins
-begun : (c : tie.Then1 invariant-loop decreases-loop)
+begun : (c : tie.Then1 invariant_loop decreases_loop)
     → (let l = c.before.before.before in begins l.before.before.args.t.now l.loop.f l.loop.held l.loop.wrong ≡ true)
 begun c = sym c.before.begins.ensures ∙ c.if1.true
 
 -- the first alignment, with it
-first-known : (c : tie.Joined2 invariant-loop decreases-loop)
-    → (let l = c.before.before.before.before in c.if2.first ≡ firstIn l.before.before.args.t.now (l.loop.f + 1))
-first-known c =
+first_known : (c : tie.Joined2 invariant_loop decreases_loop)
+    → (let l = c.before.before.before.before in c.if2.first ≡ first_in l.before.before.args.t.now (l.loop.f + 1))
+first_known c =
     let l = c.before.before.before.before.loop in
-    ⊎_elim (λ o. first-now l.invariant.0 true (begun c.before) c.if2.first (inl (eq-eqb l.first 0 o.0.taken, o.1)))
-    (λ o. first-now l.invariant.0 true (begun c.before) c.if2.first (inr (ne_eqb l.first 0 o.0.left, o.1)))
+    ⊎_elim (λ o. first_now l.invariant.0 true (begun c.before) c.if2.first (inl (eq-eqb l.first 0 o.0.taken, o.1)))
+    (λ o. first_now l.invariant.0 true (begun c.before) c.if2.first (inr (ne_eqb l.first 0 o.0.left, o.1)))
     c.if2.branch
 
 -- it is whole
-fits : (c : tie.Else3 invariant-loop decreases-loop)
+fits : (c : tie.Else3 invariant_loop decreases_loop)
     → (let l = c.before.before.before.before.before in l.loop.f + 16 ≤ length l.before.before.args.t.now)
 fits c = omega arith
 
-returns : tie.Need-returns invariant-loop decreases-loop
+returns : tie.Need-returns invariant_loop decreases_loop
 returns c =
     let j = c.before in
-    through-cut j.before.before.before.before.loop.invariant.0 (begun j.before) (first-known j) (omega arith) (omega arith)
+    through_cut j.before.before.before.before.loop.invariant.0 (begun j.before) (first_known j) (omega arith) (omega arith)
 
-loop-again : tie.Need-loop-preserved invariant-loop decreases-loop
-loop-again c =
+loop_again : tie.Need-loop-preserved invariant_loop decreases_loop
+loop_again c =
     let j = c.before.before in
     let k = fits c.before in (
-      rw c.signal-at.ensures
-          (through-more j.before.before.before.before.loop.invariant.0 (begun j.before) (first-known j) (omega arith)),
+      rw c.signal_at_lem.ensures
+          (through_more j.before.before.before.before.loop.invariant.0 (begun j.before) (first_known j) (omega arith)),
       k,
     )
 
-loop-again-2 : tie.Need-loop-preserved-2 invariant-loop decreases-loop
-loop-again-2 c =
+loop_again_2 : tie.Need-loop-preserved-2 invariant_loop decreases_loop
+loop_again_2 c =
     let g = c.before in
     let l = g.before.before.loop in
     let b = sym g.begins.ensures ∙ c.if1.false in
-    (through-lost l.invariant.0 b (first-now l.invariant.0 false b l.first (inr (refl, refl))), omega arith)
+    (through_lost l.invariant.0 b (first_now l.invariant.0 false b l.first (inr (refl, refl))), omega arith)
 
-returns-2 : tie.Need-returns-2 invariant-loop decreases-loop
-returns-2 c = through-all c.before.loop.invariant.0 (omega arith)
+returns_2 : tie.Need-returns-2 invariant_loop decreases_loop
+returns_2 c = through_all c.before.loop.invariant.0 (omega arith)
 
-pub follow-spec : {M : Type 1} → statement M
-follow-spec =
+pub follow_spec : {M : Type 1} → statement M
+follow_spec =
     tie.close
     (tie.spec
-    invariant-loop
-    decreases-loop
-    (λ c. (none-through c.before.args.t.now, omega arith))
+    invariant_loop
+    decreases_loop
+    (λ c. (none_through c.before.args.t.now, omega arith))
     (λ c κs. omega arith)
     (omega arith)
     returns
@@ -78,10 +78,10 @@ follow-spec =
     (λ c κs. omega arith)
     (λ c. omega (arith, fits c.before))
     (λ c. omega (arith, fits c.before))
-    loop-again
+    loop_again
     (λ c. tt)
-    (λ c. omega (arith, (loop-again-2 c).0.few-losses))
+    (λ c. omega (arith, (loop_again_2 c).0.few_losses))
     (omega arith)
     (omega arith)
-    loop-again-2
-    returns-2)
+    loop_again_2
+    returns_2)

@@ -4,18 +4,18 @@ use mathlib.Core.Path.{◌∙◌}
 use native.Mathlib.Omega.{arith}
 use lib.ListN.{get_or}
 use Rattle.base.proofs.PartLaws.{part_length}
-use Rattle.signals.proofs.Filling.{Filling, none_filled, few, room, there, filled_more, all-filled}
+use Rattle.signals.proofs.Filling.{Filling, none_filled, few, room, there, filled_more, all_filled}
 use Rattle.signals.proofs.put_abcd.Statement.{statement}
 use Rattle.signals.proofs.put_abcd.Tie as tie
 
-abbrev invariant-loop : tie.invariant-loop
-invariant-loop t out₀ starts m₀ m-end out m = Filling t out₀ starts m-end out m
+abbrev invariant_loop : tie.invariant_loop
+invariant_loop t out₀ starts m₀ m-end out m = Filling t out₀ starts m-end out m
 
-abbrev decreases-loop : tie.decreases-loop
-decreases-loop t out₀ starts m₀ m-end out m = m-end - m
+abbrev decreases_loop : tie.decreases_loop
+decreases_loop t out₀ starts m₀ m-end out m = m-end - m
 
-put-channels-requires : tie.Need-put-channels-requires invariant-loop decreases-loop
-put-channels-requires c κs =
+put_channels_requires : tie.Need-put-channels-requires invariant_loop decreases_loop
+put_channels_requires c κs =
     let l = c.before.before.before in
     let p = l.loop.invariant in
     let t = l.before.before.before.before.args.t.now in
@@ -25,16 +25,16 @@ put-channels-requires c κs =
       part_length a (a + 30) l.loop.out (room p (omega arith)) ∙ omega arith,
     )
 
-loop-again : tie.Need-loop-preserved invariant-loop decreases-loop
-loop-again c =
+loop_again : tie.Need-loop-preserved invariant_loop decreases_loop
+loop_again c =
     let w = c.before.before in
     let l = w.before.before.before.before in
     filled_more l.loop.invariant (omega arith) w.put-channels.new.1.0 w.put-channels.ensures c.before.out.given.1
 
-pub put-abcd-spec : {M : Type 1} → statement M
-put-abcd-spec =
+pub put_abcd_spec : {M : Type 1} → statement M
+put_abcd_spec =
     tie.close
-    (tie.spec invariant-loop decreases-loop
+    (tie.spec invariant_loop decreases_loop
     (λ c. let s = c.before.before.before in none_filled s.args.t.now s.args.out.now s.args.found s.requires.1 s.requires.0 s.requires.2)
     (λ c. omega (arith, few c.before.loop.invariant))
     (λ c. omega (arith, few c.before.loop.invariant))
@@ -47,9 +47,9 @@ put-abcd-spec =
     (omega arith)
     (λ c. omega (arith, room c.before.before.loop.invariant (omega arith)))
     (λ c. omega (arith, room c.before.before.loop.invariant (omega arith)))
-    put-channels-requires
+    put_channels_requires
     (λ c. omega (arith, few c.before.before.before.before.before.before.loop.invariant))
     (omega arith)
-    loop-again
+    loop_again
     (λ c. c.before.loop.invariant.long)
-    (λ c. all-filled c.before.loop.invariant (omega arith)))
+    (λ c. all_filled c.before.loop.invariant (omega arith)))

@@ -7,12 +7,12 @@ use native.Mathlib.Omega.{arith}
 use borrow.Author.Rules.{rules}
 use borrow.Author.Tests.{lt-ltb, le-ltb}
 use lib.ListN.{length, take}
-use Rattle.read.specs.Entry.{start_in, usedIn}
+use Rattle.read.specs.Entry.{start_in, used_in}
 use Rattle.read.proofs.Measures.{Places, places}
-use Rattle.signals.specs.Entry.{slot16Of, slot16In, filled}
+use Rattle.signals.specs.Entry.{slot16_of, slot16_in, filled}
 use Rattle.signals.specs.Follow.{followed}
-use Rattle.signals.proofs.Found.{found-read, found-few}
-use Rattle.signals.proofs.EntryLaws.{slot16-length, placed-then, refused_as, accepted-as, unplaced-as, answer-found}
+use Rattle.signals.proofs.Found.{found_read, found_few}
+use Rattle.signals.proofs.EntryLaws.{slot16_length, placed_then, refused_as, accepted_as, unplaced_as, answer_found}
 use Rattle.signals.proofs.signals.Statement.{statement}
 use Rattle.signals.proofs.signals.Tie as tie
 
@@ -24,7 +24,7 @@ returns : tie.Need-returns
 returns c =
     let l = c.before.before.before in
     let a = (start l).args in
-    rw c.refused.ensures (unplaced-as a.image.now a.out.now l.locate.result l.locate.ensures c.before.if1.true)
+    rw c.refused.ensures (unplaced_as a.image.now a.out.now l.locate.result l.locate.ensures c.before.if1.true)
 
 -- a place stands
 there : (c : tie.Else1) → Places (start c.before.before).args.image.now c.before.before.locate.result
@@ -34,7 +34,7 @@ there c =
 
 -- slot 16 of the frames that are used
 abbrev t : tie.After-slot16-of → List ℕ
-t c = slot16In (start c.before.before.before).args.image.now
+t c = slot16_in (start c.before.before.before).args.image.now
 
 slots : (c : tie.After-slot16-of) → take (16 * c.before.before.before.locate.result.used - 0) c.slot16-of.result ≡ t c
 slots c =
@@ -42,13 +42,13 @@ slots c =
     let g = l.locate.result.used in
     let z : 16 * g - 0 ≡ 16 * g = omega arith in
     ap (λ n. take n c.slot16-of.result) z ∙ c.slot16-of.ensures
-    ∙ ap₂ (slot16Of (start l).args.image.now) (there c.before).at (there c.before).upto
+    ∙ ap₂ (slot16_of (start l).args.image.now) (there c.before).at (there c.before).upto
 
 short : (c : tie.After-slot16-of) → length (t c) ≤ 256
 short c =
     let p = there c.before in
     let s = (start c.before.before.before).args.image.now in
-    omega (arith, slot16-length s (start_in s) (usedIn s), p.upto, p.few)
+    omega (arith, slot16_length s (start_in s) (used_in s), p.upto, p.few)
 
 -- what is found in them
 abbrev taken : tie.After-follow → tie.After-slot16-of
@@ -57,18 +57,18 @@ taken c = c.before.before.before.before
 found : (c : tie.After-follow) → c.follow.result ≡ followed (t (taken c))
 found c = c.follow.ensures ∙ ap followed (slots (taken c))
 
-mul-if2 : tie.Need-overflow-mul-if2
-mul-if2 c = omega (arith, found-few (t (taken c.before)) c.before.follow.result (found c.before) (short (taken c.before)))
+mul_if2 : tie.Need-overflow-mul-if2
+mul_if2 c = omega (arith, found_few (t (taken c.before)) c.before.follow.result (found c.before) (short (taken c.before)))
 
-returns-2 : tie.Need-returns-2
-returns-2 c =
+returns_2 : tie.Need-returns-2
+returns_2 c =
     let f = c.before.before.before in
     let l = (taken f).before.before.before in
     let a = (start l).args in
-    let n = found-read (t (taken f)) f.follow.result (found f) in
+    let n = found_read (t (taken f)) f.follow.result (found f) in
     rw c.refused2.ensures
     (refused_as a.image.now a.out.now 4
-    (placed-then a.image.now (length a.out.now) (there (taken f).before).none true
+    (placed_then a.image.now (length a.out.now) (there (taken f).before).none true
     (lt-ltb (length a.out.now) (filled (t (taken f))) (omega (arith, c.before.if2.true))))
     (λ z. omega arith))
 
@@ -77,36 +77,36 @@ fits : (c : tie.Else2)
     → (let f = c.before.before in filled (t (taken f)) ≤ length (start (taken f).before.before.before).args.out.now)
 fits c =
     let f = c.before.before in
-    let n = found-read (t (taken f)) f.follow.result (found f) in
+    let n = found_read (t (taken f)) f.follow.result (found f) in
     omega (arith, c.if2.false)
 
-xy-requires : tie.Need-xy-requires
-xy-requires c κs =
+xy_requires : tie.Need-xy-requires
+xy_requires c κs =
     let f = c.before.before.before.before in
     rw (slots (taken f)) (short (taken f), found f)
 
-put-abcd-requires : tie.Need-put-abcd-requires
-put-abcd-requires c κs =
+put_abcd_requires : tie.Need-put-abcd-requires
+put_abcd_requires c κs =
     let e = c.before.before.before.before.before.before in
     let f = e.before.before in
     rw (slots (taken f)) (short (taken f), found f, fits e)
 
-returns-3 : tie.Need-returns-3
-returns-3 c =
+returns_3 : tie.Need-returns-3
+returns_3 c =
     let w = c.before.before.before in
     let x = w.before.before.before.before in
     let e = x.before.before.before in
     let f = e.before.before in
     let g = taken f in
     let a = (start g.before.before.before).args in
-    accepted-as a.image.now a.out.now _ w.put-abcd.new.1.1.0
-    (placed-then a.image.now (length a.out.now) (there g.before).none false
+    accepted_as a.image.now a.out.now _ w.put-abcd.new.1.1.0
+    (placed_then a.image.now (length a.out.now) (there g.before).none false
     (le-ltb (length a.out.now) (filled (t g)) (fits e)))
-    (answer-found (t g) f.follow.result x.xy.result (found f) (rw (slots g) at x.xy.ensures))
+    (answer_found (t g) f.follow.result x.xy.result (found f) (rw (slots g) at x.xy.ensures))
     (rw (slots g) at w.put-abcd.ensures)
 
-pub signals-spec : {M : Type 1} → statement M
-signals-spec =
+pub signals_spec : {M : Type 1} → statement M
+signals_spec =
     tie.close
     (tie.spec
     (search rules)
@@ -118,16 +118,16 @@ signals-spec =
     (search rules)
     (λ c. omega (arith, (there c.before.before.before).few))
     (λ c κs. let g = c.before.before.before in rw (slots g) (short g))
-    mul-if2
+    mul_if2
     (search rules)
-    returns-2
+    returns_2
     (search rules)
     (search rules)
     (λ c. omega (arith, (there (taken c.before.before.before).before).few))
-    xy-requires
+    xy_requires
     (search rules)
     (search rules)
     (λ c. omega (arith, (there (taken c.before.before.before.before.before.before).before).few))
-    put-abcd-requires
+    put_abcd_requires
     (search rules)
-    returns-3)
+    returns_3)

@@ -5,7 +5,7 @@ use native.Mathlib.Omega.{arith}
 use borrow.Author.Tests.{ltb-true}
 use lib.Dec.{ltb}
 use lib.ListN.{length, get_or}
-use Rattle.signals.proofs.Found.{found-few, found_within, xy-last, xy-none}
+use Rattle.signals.proofs.Found.{found_few, found_within, xy_last, xy_none}
 use Rattle.signals.proofs.xy.Statement.{statement}
 use Rattle.signals.proofs.xy.Tie as tie
 
@@ -13,12 +13,12 @@ returns : tie.Need-returns
 returns c =
     let i = c.before.before in
     let s = i.before.before.before.before in
-    xy-last s.args.t.now s.args.found s.requires.1 i.if1.true
+    xy_last s.args.t.now s.args.found s.requires.1 i.if1.true
 
-returns-2 : tie.Need-returns-2
-returns-2 c =
+returns_2 : tie.Need-returns-2
+returns_2 c =
     let s = c.before.before.before.before in
-    xy-none s.args.t.now s.args.found s.requires.1 c.if1.false
+    xy_none s.args.t.now s.args.found s.requires.1 c.if1.false
 
 -- one is read, but no more than 15, and the last is there
 last : (c : tie.Then1)
@@ -29,10 +29,10 @@ last c =
     let r = s.args.found in
     let t = s.args.t.now in
     let k = ltb-true 0 r.multiframes ((and-eq-true_iff r.held (ltb 0 r.multiframes)).0 c.if1.true).1 in
-    (omega arith, found-few t r s.requires.1 s.requires.0, found_within t r s.requires.1 (r.multiframes - 1) (omega arith))
+    (omega arith, found_few t r s.requires.1 s.requires.0, found_within t r s.requires.1 (r.multiframes - 1) (omega arith))
 
-pub xy-spec : {M : Type 1} → statement M
-xy-spec =
+pub xy_spec : {M : Type 1} → statement M
+xy_spec =
     tie.close
     (tie.spec
     (λ c. (last c.before).0)
@@ -40,4 +40,4 @@ xy-spec =
     (λ c. omega (arith, last c.before))
     (λ c. omega (arith, last c.before.before))
     returns
-    returns-2)
+    returns_2)

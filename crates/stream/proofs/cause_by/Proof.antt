@@ -11,8 +11,8 @@ use Rattle.stream.proofs.cause_by.Tie as tie
 abbrev by : ℕ → Bool → ℕ
 by lost b = if b then 0 else 1 + lost % 2
 
-pub cause-by-spec : {M : Type 1} → statement M
-cause-by-spec =
+pub cause_by_spec : {M : Type 1} → statement M
+cause_by_spec =
     tie.close
     (tie.spec
     (λ c. sym (ap (by c.before.args.lost) (eq-eqb c.before.args.lost 0 c.if1.true)))

@@ -6,12 +6,12 @@ use native.Mathlib.Omega.{arith}
 use borrow.Author.Rules.{rules}
 use borrow.Author.Tests.{lt-ltb, le-ltb}
 use lib.Dec.{ltb}
-use Rattle.align.specs.Place.{number_of, placeOf}
+use Rattle.align.specs.Place.{number_of, place_of}
 use Rattle.read.specs.Entry as reads
-use Rattle.stream.specs.Entry.{is_over, octetsCame, endAccept, ending}
+use Rattle.stream.specs.Entry.{is_over, octets_came, end_accept, ending}
 use Rattle.stream.specs.declared.Stream.{Stream}
 use Rattle.stream.specs.declared.Ended.{Ended}
-use Rattle.stream.proofs.EntryLaws.{Sound, sound, not-ended, ended-21, ended-1, ended-by-found, place-beside, ended_so}
+use Rattle.stream.proofs.EntryLaws.{Sound, sound, not_ended, ended_21, ended_1, ended_by_found, place_beside, ended_so}
 use Rattle.stream.proofs.end.Statement.{statement}
 use Rattle.stream.proofs.end.Tie as tie
 
@@ -19,50 +19,50 @@ returns : tie.Need-returns
 returns c =
     let o = c.before.before in
     let st = o.before.args.stream in
-    c.unended.ensures ∙ not-ended st 20 (ended-21 st (sym o.is-over.ensures ∙ c.before.if1.true)) 0 refl
+    c.unended.ensures ∙ not_ended st 20 (ended_21 st (sym o.is_over_lem.ensures ∙ c.before.if1.true)) 0 refl
 
 -- the stream is not over
-not-over : (c : tie.After-struct-known2) → is_over c.before.before.before.before.before.args.stream ≡ false
-not-over c = let e = c.before.before.before in sym e.before.is-over.ensures ∙ e.if1.false
+not_over : (c : tie.After-struct-known2) → is_over c.before.before.before.before.before.args.stream ≡ false
+not_over c = let e = c.before.before.before in sym e.before.is_over_lem.ensures ∙ e.if1.false
 
-its-sound : (c : tie.After-struct-known2) → Sound c.before.before.before.before.before.args.stream
-its-sound c = sound c.before.before.before.before.before.args.stream (not-over c)
+its_sound : (c : tie.After-struct-known2) → Sound c.before.before.before.before.before.args.stream
+its_sound c = sound c.before.before.before.before.before.args.stream (not_over c)
 
-returns-2 : tie.Need-returns-2
-returns-2 c =
+returns_2 : tie.Need-returns-2
+returns_2 c =
     let k = c.before.before in
     let st = k.before.before.before.before.before.args.stream in
-    c.unended2.ensures ∙ not-ended st 0 (ended-1 st (not-over k) (lt-ltb _ _ c.before.if2.true)) 0 refl
+    c.unended2.ensures ∙ not_ended st 0 (ended_1 st (not_over k) (lt-ltb _ _ c.before.if2.true)) 0 refl
 
-returns-3 : tie.Need-returns-3
-returns-3 c =
+returns_3 : tie.Need-returns-3
+returns_3 c =
     let p = c.before.before in
     let e = p.before.before in
     let k = e.before in
     let st = k.before.before.before.before.before.args.stream in
-    go st (not-over k) (le-ltb _ _ e.if2.false) p.before.number_of_lem.result p.before.number_of_lem.ensures c.before.if3.true
+    go st (not_over k) (le-ltb _ _ e.if2.false) p.before.number_of_lem.result p.before.number_of_lem.ensures c.before.if3.true
     p.place_of.result p.place_of.ensures c.unended3.result c.unended3.ensures
   where
-    go : (st : Stream) → is_over st ≡ false → ltb (octetsCame st) 2048 ≡ false → (n : ℕ) → n ≡ number_of st.line.found → (n ≡ 0 → ⊥)
-        → (p : ℕ) → p ≡ placeOf st.line.found → (r : Ended) → r ≡ record { stream = st; reading = reads.refuse n p } → r ≡ ending st
+    go : (st : Stream) → is_over st ≡ false → ltb (octets_came st) 2048 ≡ false → (n : ℕ) → n ≡ number_of st.line.found → (n ≡ 0 → ⊥)
+        → (p : ℕ) → p ≡ place_of st.line.found → (r : Ended) → r ≡ record { stream = st; reading = reads.refuse n p } → r ≡ ending st
     go st a b zero e z p q r h = absurd (z refl)
-    go st a b (suc n) e z p q r h = h ∙ not-ended st n (ended-by-found st a b ∙ sym e) p (q ∙ place-beside st n (sym e))
+    go st a b (suc n) e z p q r h = h ∙ not_ended st n (ended_by_found st a b ∙ sym e) p (q ∙ place_beside st n (sym e))
 
-returns-4 : tie.Need-returns-4
-unfolding endAccept
-returns-4 c =
+returns_4 : tie.Need-returns-4
+unfolding end_accept
+returns_4 c =
     let o = c.before.before.before in
     let p = o.before.before in
     let e = p.before.before in
     let k = e.before in
     let st = k.before.before.before.before.before.args.stream in
-    ended_so st (ended-by-found st (not-over k) (le-ltb _ _ e.if2.false) ∙ sym p.before.number_of_lem.ensures ∙ o.before.if3.false) _
+    ended_so st (ended_by_found st (not_over k) (le-ltb _ _ e.if2.false) ∙ sym p.before.number_of_lem.ensures ∙ o.before.if3.false) _
     (λ i.
     record {
       number = 0;
       place = p.place_of.ensures i;
       start = o.start_of_lem.ensures i;
-      whole = (c.before.before.whole.ensures ∙ ap (λ x. (8 * octetsCame st - x) / 4096) o.start_of_lem.ensures) i;
+      whole = (c.before.before.whole.ensures ∙ ap (λ x. (8 * octets_came st - x) / 4096) o.start_of_lem.ensures) i;
       used = st.line.used;
       lost = st.line.lost;
       words = st.line.words;
@@ -70,25 +70,25 @@ returns-4 c =
       errored = st.line.errored;
       farend = st.line.farend;
       wordbits = st.line.wordbits;
-      cause = c.cause-by.ensures i;
+      cause = c.cause_by_lem.ensures i;
     })
 
-pub end-spec : {M : Type 1} → statement M
-end-spec =
+pub end_spec : {M : Type 1} → statement M
+end_spec =
     tie.close
     (tie.spec
     (search rules)
     (search rules)
     returns
-    (λ c. let s = its-sound c in omega (arith, s.fill, s.small.before))
+    (λ c. let s = its_sound c in omega (arith, s.fill, s.small.before))
     (search rules)
-    returns-2
+    returns_2
     (search rules)
     (search rules)
     (search rules)
-    returns-3
-    (λ c κs. let s = its-sound c.before.before.before.before in omega (arith, s.small.start))
-    (λ c κs. let s = its-sound c.before.before.before.before.before in omega (arith, s.fill, s.small.before))
-    (λ c κs. let s = its-sound c.before.before.before.before.before.before in omega (arith, s.small.used))
+    returns_3
+    (λ c κs. let s = its_sound c.before.before.before.before in omega (arith, s.small.start))
+    (λ c κs. let s = its_sound c.before.before.before.before.before in omega (arith, s.fill, s.small.before))
+    (λ c κs. let s = its_sound c.before.before.before.before.before.before in omega (arith, s.small.used))
     (search rules)
-    returns-4)
+    returns_4)

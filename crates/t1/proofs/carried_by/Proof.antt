@@ -6,33 +6,33 @@ use native.Mathlib.Omega.{arith}
 use lib.Pow.{pow_mono}
 use Rattle.line.specs.Bit.{bit_at}
 use Rattle.line.specs.Spelt.{spelt, digit}
-use Rattle.line.proofs.BitLaws.{bit-lt}
-use Rattle.line.proofs.SpeltLaws.{spelt-more, spelt-lt, spelt-agree, digit-spelt}
+use Rattle.line.proofs.BitLaws.{bit_lt}
+use Rattle.line.proofs.SpeltLaws.{spelt_more, spelt_lt, spelt_agree, digit_spelt}
 use Rattle.t1.specs.Superframe.{carried}
-use Rattle.t1.specs.Raw.{framingOf}
+use Rattle.t1.specs.Raw.{framing_of}
 use Rattle.t1.proofs.carried_by.Statement.{statement}
 use Rattle.t1.proofs.carried_by.Tie as tie
 
-abbrev invariant-loop : tie.invariant-loop
-invariant-loop framing c₀ i₀ c i = (i ≤ 6) × (c ≡ spelt i (λ j. digit 24 framing (4 * j + 1))) × (c < 64)
+abbrev invariant_loop : tie.invariant_loop
+invariant_loop framing c₀ i₀ c i = (i ≤ 6) × (c ≡ spelt i (λ j. digit 24 framing (4 * j + 1))) × (c < 64)
 
-abbrev decreases-loop : tie.decreases-loop
-decreases-loop framing c₀ i₀ c i = 6 - i
+abbrev decreases_loop : tie.decreases_loop
+decreases_loop framing c₀ i₀ c i = 6 - i
 
-loop-again : tie.Need-loop-preserved invariant-loop decreases-loop
-loop-again c =
+loop_again : tie.Need-loop-preserved invariant_loop decreases_loop
+loop_again c =
     let l = c.before in
     let x = l.before.args.framing in
     let i = l.loop.i in
     let f : ℕ → ℕ = λ j. digit 24 x (4 * j + 1) in
     let n : 22 - 4 * i ≡ 24 - 1 - (4 * i + 1) = omega arith in
-    let e = ap₂ (λ y z. 2 * y + z) l.loop.invariant.1 (ap (λ k. x / 2 ^ k % 2) n) ∙ sym (spelt-more i f) in
-    let lt = spelt-lt (i + 1) f (λ j. mod-lt (x / 2 ^ (24 - 1 - (4 * j + 1))) (zero-lt-suc 1)) in
+    let e = ap₂ (λ y z. 2 * y + z) l.loop.invariant.1 (ap (λ k. x / 2 ^ k % 2) n) ∙ sym (spelt_more i f) in
+    let lt = spelt_lt (i + 1) f (λ j. mod-lt (x / 2 ^ (24 - 1 - (4 * j + 1))) (zero-lt-suc 1)) in
     let few : 2 ^ (i + 1) ≤ 2 ^ 6 = pow_mono {i = i + 1} {j = 6} (omega arith) in
     (omega arith, e, omega arith)
 
-returns : tie.Need-returns invariant-loop decreases-loop
-unfolding carried framingOf
+returns : tie.Need-returns invariant_loop decreases_loop
+unfolding carried framing_of
 returns c =
     let l = c.before in
     let x = l.before.args.framing in
@@ -40,16 +40,16 @@ returns c =
       λ s q own.
           let g : ℕ → ℕ = λ f. bit_at s (q + 193 * f) in
           l.loop.invariant.1 ∙ ap (λ n. spelt n (λ j. digit 24 x (4 * j + 1))) e
-          ∙ spelt-agree 6 (λ j. digit 24 x (4 * j + 1)) (λ j. g (4 * j + 1))
-          (λ j h. ap (λ y. digit 24 y (4 * j + 1)) own ∙ digit-spelt 24 (4 * j + 1) g (λ f. bit-lt s (q + 193 * f)) (omega arith)),
+          ∙ spelt_agree 6 (λ j. digit 24 x (4 * j + 1)) (λ j. g (4 * j + 1))
+          (λ j h. ap (λ y. digit 24 y (4 * j + 1)) own ∙ digit_spelt 24 (4 * j + 1) g (λ f. bit_lt s (q + 193 * f)) (omega arith)),
       l.loop.invariant.2,
     )
 
-pub carried-by-spec : {M : Type 1} → statement M
+pub carried_by_spec : {M : Type 1} → statement M
 unfolding spelt
-carried-by-spec =
+carried_by_spec =
     tie.close
-    (tie.spec invariant-loop decreases-loop
+    (tie.spec invariant_loop decreases_loop
     (λ c. (omega arith, refl, omega arith))
     (omega arith)
     (omega arith)
@@ -58,5 +58,5 @@ carried-by-spec =
     (omega arith)
     (omega arith)
     (omega arith)
-    loop-again
+    loop_again
     returns)

@@ -10,8 +10,8 @@ returns : tie.Need-returns
 unfolding fourth
 returns c = (refl, omega arith)
 
-pub fourth-spec : {M : Type 1} → statement M
-fourth-spec =
+pub fourth_spec : {M : Type 1} → statement M
+fourth_spec =
     tie.close
     (tie.spec
     (search rules)

@@ -3,7 +3,7 @@ use Prim.Native.Nat.{◌+◌}
 use native.Mathlib.Omega.{arith}
 use borrow.Author.Rules.{rules}
 use lib.Dec.{lit<}
-use Rattle.t1align.proofs.Sets.{half-of-bits, where-bit, where-both, where-neither, where-exactly, as-exactly}
+use Rattle.t1align.proofs.Sets.{half_of_bits, where_bit, where_both, where_neither, where_exactly, as_exactly}
 use Rattle.t1align.proofs.threes.Statement.{statement}
 use Rattle.t1align.proofs.threes.Tie as tie
 
@@ -16,15 +16,15 @@ returns c =
     let x₁ = x₂.before in
     let x₀ = x₁.before in
     let s = x₀.before.before.args.part.now in
-    let bit = where-bit 3 (lit< tt) s 0 in
-    let both = where-both 3 (lit< tt) in
-    rw c.turned.ensures (as-exactly _ _
+    let bit = where_bit 3 (lit< tt) s 0 in
+    let both = where_both 3 (lit< tt) in
+    rw c.turned.ensures (as_exactly _ _
     (λ o l. (
-      λ w. (half-of-bits 0 s o w.1.0 w.0.0.0.0 w.0.0.0.1, half-of-bits 0 s (o + 4632) w.1.1 w.0.0.1 w.0.1),
+      λ w. (half_of_bits 0 s o w.1.0 w.0.0.0.0 w.0.0.0.1, half_of_bits 0 s (o + 4632) w.1.1 w.0.0.1 w.0.1),
       λ w. ((((w.0 1 (lit< tt), w.0 2 (lit< tt)), w.1 1 (lit< tt)), w.1 2 (lit< tt)), (w.0 0 (lit< tt), w.1 0 (lit< tt))),
     ))
     _
-    (where-exactly 3 (lit< tt) _ _
+    (where_exactly 3 (lit< tt) _ _
     (both _ _ _ _
     (both _ _ _ _
     (both _ _ _ _
@@ -33,11 +33,11 @@ returns c =
     (bit 2 (λ o. o) 458 _ (λ o. omega arith) x₁.eight-octets2.ensures))
     (bit 1 (λ o. o + 4632) 844 _ (λ o. omega arith) x₂.eight-octets3.ensures))
     (bit 2 (λ o. o + 4632) 1037 _ (λ o. omega arith) x₃.eight-octets4.ensures))
-    (where-neither 3 (lit< tt) _ _ _ _ (omega arith) (omega arith)
+    (where_neither 3 (lit< tt) _ _ _ _ (omega arith) (omega arith)
     (bit 0 (λ o. o) 72 _ (λ o. omega arith) x₄.eight-octets5.ensures)
     (bit 0 (λ o. o + 4632) 651 _ (λ o. omega arith) x₅.eight-octets6.ensures)))))
 
-pub threes-spec : {M : Type 1} → statement M
-threes-spec =
+pub threes_spec : {M : Type 1} → statement M
+threes_spec =
     tie.close
     (tie.spec (search rules) (search rules) (search rules) (search rules) (search rules) (search rules) (search rules) returns)

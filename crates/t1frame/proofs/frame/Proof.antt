@@ -5,8 +5,8 @@ use lib.ListN.{length-take}
 use Rattle.t1frame.proofs.frame.Statement.{statement}
 use Rattle.t1frame.proofs.frame.Tie as tie
 
-pub frame-spec : {M : Type 1} → statement M
-frame-spec =
+pub frame_spec : {M : Type 1} → statement M
+frame_spec =
     tie.close
     (tie.spec (search rules) (search rules) (search rules) (search rules) (search rules) (search rules)
     (λ c. simp length-take (omega arith))

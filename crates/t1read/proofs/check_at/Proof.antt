@@ -3,16 +3,16 @@ use Prim.Native.Nat.{◌+◌, ◌-◌, ◌*◌}
 use mathlib.Core.Path.{◌∙◌}
 use native.Mathlib.Omega.{arith}
 use borrow.Author.Rules.{rules}
-use Rattle.t1.proofs.Slides.{raw-part}
+use Rattle.t1.proofs.Slides.{raw_part}
 use Rattle.t1read.proofs.check_at.Statement.{statement}
 use Rattle.t1read.proofs.check_at.Tie as tie
 
-slid-requires : tie.Need-slid-requires
-slid-requires c κs =
+slid_requires : tie.Need-slid-requires
+slid_requires c κs =
     let a = c.before.before.before.args in (
       omega arith,
       omega arith,
-      c.of.ensures.0 ∙ raw-part a.s.now a.i (a.i + 579 - a.i) 0 (8 * a.i) (omega arith) (omega arith),
+      c.of.ensures.0 ∙ raw_part a.s.now a.i (a.i + 579 - a.i) 0 (8 * a.i) (omega arith) (omega arith),
       c.of.ensures.1,
     )
 
@@ -22,8 +22,8 @@ returns c =
     let a = start.args in
     c.check-by.ensures.0 a.s.now (8 * a.i + a.o) c.before.slid.ensures.0 start.requires.2
 
-pub check-at-spec : {M : Type 1} → statement M
-check-at-spec =
+pub check_at_spec : {M : Type 1} → statement M
+check_at_spec =
     tie.close
     (tie.spec
     (search rules)
@@ -31,6 +31,6 @@ check-at-spec =
     (search rules)
     (search rules)
     (search rules)
-    slid-requires
+    slid_requires
     (search rules)
     returns)

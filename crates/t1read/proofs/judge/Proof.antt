@@ -12,14 +12,14 @@ use borrow.Rule.Slice.PartMut.{put_mid}
 use lib.Bits.{bit_and, and_le_r}
 use lib.ListN.{length, take, drop}
 use lib.Seq.{drop-drop}
-use Rattle.base.specs.Tab.{tab, tabFrom, sum, count}
-use Rattle.base.proofs.TabLaws.{count_yes, count_no, count-le}
-use Rattle.base.proofs.PartLaws.{part_length, parts-kept}
+use Rattle.base.specs.Tab.{tab, tab_from, sum, count}
+use Rattle.base.proofs.TabLaws.{count_yes, count_no, count_le}
+use Rattle.base.proofs.PartLaws.{part_length, parts_kept}
 use Rattle.line.proofs.BitLaws.{place_in}
-use Rattle.t1.specs.Superframe.{superCheck, agrees}
-use Rattle.t1.specs.Raw.{framingOf}
-use Rattle.t1read.specs.Reading.{linkBit, link_of, errored}
-use Rattle.t1read.proofs.Judged.{link-more, link-rest, judged}
+use Rattle.t1.specs.Superframe.{super_check, agrees}
+use Rattle.t1.specs.Raw.{framing_of}
+use Rattle.t1read.specs.Reading.{link_bit, link_of, errored}
+use Rattle.t1read.proofs.Judged.{link_more, link_rest, judged}
 use Rattle.t1read.proofs.judge.Statement.{statement}
 use Rattle.t1read.proofs.judge.Tie as tie
 
@@ -29,81 +29,81 @@ differs s q b = not (agrees s (q + 4632 * b))
 -- the data link of superframes up to b, and the rest as it was
 abbrev Linked : List ℕ → ℕ → ℕ → List ℕ → List ℕ → Type 0
 Linked s q b link₀ link =
-    (length link ≡ length link₀) × (take (12 * b + 12) link ≡ tab (12 * b + 12) (linkBit s q)) ×
+    (length link ≡ length link₀) × (take (12 * b + 12) link ≡ tab (12 * b + 12) (link_bit s q)) ×
     (drop (12 * b + 12) link ≡ drop (12 * b + 12) link₀)
 
-abbrev invariant-loop : tie.invariant-loop
-invariant-loop s q n link₀ i o framing₀ errored₀ b₀ b_end link framing errored b =
-    (b ≤ n - 1) × (framing ≡ framingOf s (q + 4632 * b)) × (framing < 2 ^ 24) × Linked s q b link₀ link ×
+abbrev invariant_loop : tie.invariant_loop
+invariant_loop s q n link₀ i o framing₀ errored₀ b₀ b_end link framing errored b =
+    (b ≤ n - 1) × (framing ≡ framing_of s (q + 4632 * b)) × (framing < 2 ^ 24) × Linked s q b link₀ link ×
     (errored ≡ count b (differs s q))
 
-abbrev decreases-loop : tie.decreases-loop
-decreases-loop s q n link₀ i o framing₀ errored₀ b₀ b_end link framing errored b = n - b
+abbrev decreases_loop : tie.decreases_loop
+decreases_loop s q n link₀ i o framing₀ errored₀ b₀ b_end link framing errored b = n - b
 
 -- the place q, octet and bit
 at_place : (q k : ℕ) → 8 * (q / 8 + 579 * k) + bit_and q 7 ≡ q + 4632 * k
 at_place q k = omega (arith, place_in q)
 
-framing-requires : tie.Need-framing-requires invariant-loop decreases-loop
-framing-requires c κs =
+framing_requires : tie.Need-framing-requires invariant_loop decreases_loop
+framing_requires c κs =
     let d = c.before.before in
     let q = d.args.q in
     let there = d.requires.0.there in (omega (arith, place_in q), omega (arith, and_le_r q 7))
 
-loop-holds : tie.Need-loop-init invariant-loop decreases-loop
-unfolding tabFrom sum
-loop-holds c =
+loop_holds : tie.Need-loop-init invariant_loop decreases_loop
+unfolding tab_from sum
+loop_holds c =
     let f = c.before.before.before.before.framing in
     let w = c.before.before.put-link in
     let a = c.before.before.before.before.before.before.before.args in
     let s = a.s.now in
     let q = a.q in
     let p : 8 * (q / 8) + bit_and q 7 ≡ q + 4632 * 0 = omega (arith, place_in q) in
-    let e = f.ensures.0 ∙ ap (framingOf s) p in (
+    let e = f.ensures.0 ∙ ap (framing_of s) p in (
       omega arith,
       e,
       f.ensures.1,
-      (refl, link-more s q 0 0 f.result a.link.now w.new.1.0 refl (omega arith) e w.ensures 12 refl refl, refl),
+      (refl, link_more s q 0 0 f.result a.link.now w.new.1.0 refl (omega arith) e w.ensures 12 refl refl, refl),
       refl,
     )
 
-framing-requires-2 : tie.Need-framing-requires-2 invariant-loop decreases-loop
-framing-requires-2 c κs =
+framing_requires_2 : tie.Need-framing-requires-2 invariant_loop decreases_loop
+framing_requires_2 c κs =
     let l = c.before in
     let d = l.before.before.before.before.before.before.before.before in
     let q = d.args.q in
     let there = d.requires.0.there in
     (omega (arith, at_place q (l.loop.b + 1)), omega (arith, and_le_r q 7))
 
-put-link-requires-2 : tie.Need-put-link-requires-2 invariant-loop decreases-loop
-put-link-requires-2 c κs =
+put_link_requires_2 : tie.Need-put-link-requires-2 invariant_loop decreases_loop
+put_link_requires_2 c κs =
     let l = c.before.before.before in
     let a = 12 * l.loop.b + 12 in
     let long = l.loop.invariant.3.0 ∙ l.before.before.link.given.1 in
     part_length a (a + 12) l.loop.link (omega arith) ∙ omega arith
 
-check-at-requires : tie.Need-check-at-requires invariant-loop decreases-loop
-check-at-requires c κs =
+check_at_requires : tie.Need-check-at-requires invariant_loop decreases_loop
+check_at_requires c κs =
     let l = c.before.before.before.before.before.before in
     let d = l.before.before.before.before.before.before.before.before in
     let q = d.args.q in
     let there = d.requires.0.there in (
       omega (arith, place_in q),
       omega (arith, and_le_r q 7),
-      l.loop.invariant.1 ∙ ap (framingOf d.args.s.now) (sym (at_place q l.loop.b)),
+      l.loop.invariant.1 ∙ ap (framing_of d.args.s.now) (sym (at_place q l.loop.b)),
       l.loop.invariant.2,
     )
 
-add-errored : tie.Need-overflow-add-errored invariant-loop decreases-loop
-add-errored c =
+add_errored : tie.Need-overflow-add-errored invariant_loop decreases_loop
+add_errored c =
     let l = c.before.before.before.before.before.before.before.before.before in
     let d = l.before.before.before.before.before.before.before.before in
-    omega (arith, l.loop.invariant.4, count-le l.loop.b (differs d.args.s.now d.args.q))
+    omega (arith, l.loop.invariant.4, count_le l.loop.b (differs d.args.s.now d.args.q))
 
-loop-again : tie.Need-loop-preserved invariant-loop decreases-loop
-loop-again c =
+loop_again : tie.Need-loop-preserved invariant_loop decreases_loop
+loop_again c =
     let k = c.before.carried-by in
-    let t = c.before.before.check-at in
+    let t = c.before.before.check_at_lem in
     let put = c.before.before.before.before in
     let w = put.before.put-link2 in
     let f = put.before.before.before.framing2 in
@@ -116,11 +116,11 @@ loop-again c =
     let v = l.loop.invariant in
     let p : 8 * (q / 8 + 579 * b + 579) + bit_and q 7 ≡ q + 4632 * (b + 1) = omega (arith, at_place q (b + 1)) in
     let n : q + 4632 * (b + 1) ≡ q + 4632 * b + 4632 = omega arith in
-    let e = f.ensures.0 ∙ ap (framingOf s) p in
+    let e = f.ensures.0 ∙ ap (framing_of s) p in
     let x = t.result in
     let y = k.result in
-    let so = sym (judged s (q + 4632 * b) x y (t.ensures ∙ ap (superCheck s) (at_place q b))
-    (k.ensures.0 s (q + 4632 * b + 4632) (e ∙ ap (framingOf s) n))) in
+    let so = sym (judged s (q + 4632 * b) x y (t.ensures ∙ ap (super_check s) (at_place q b))
+    (k.ensures.0 s (q + 4632 * b + 4632) (e ∙ ap (framing_of s) n))) in
     let ys = w.new.1.0 in
     let long = v.3.0 ∙ l.before.before.link.given.1 in
     let fits : 12 * b + 12 + 12 ≤ length l.loop.link = omega (arith, long, d.requires.2) in
@@ -131,8 +131,8 @@ loop-again c =
       f.ensures.1,
       (
         put.link2.given.1 ∙ v.3.0,
-        link-more s q (b + 1) (12 * b + 12) f.result l.loop.link ys next fits e w.ensures _ step v.3.1,
-        link-rest s q (b + 1) (12 * b + 12) f.result l.loop.link ys next fits e w.ensures _ step _ v.3.2,
+        link_more s q (b + 1) (12 * b + 12) f.result l.loop.link ys next fits e w.ensures _ step v.3.1,
+        link_rest s q (b + 1) (12 * b + 12) f.result l.loop.link ys next fits e w.ensures _ step _ v.3.2,
       ),
       ⊎_elim
           (λ o. o.1 ∙ ap (λ m. m + 1) v.4 ∙ sym (count_yes b (differs s q) (ap not (so ∙ ne_eqb x y o.0.taken))))
@@ -140,7 +140,7 @@ loop-again c =
           c.if1.branch,
     )
 
-returns : tie.Need-returns invariant-loop decreases-loop
+returns : tie.Need-returns invariant_loop decreases_loop
 unfolding link_of errored
 returns c =
     let l = c.before in
@@ -156,46 +156,46 @@ returns c =
     let last : l.loop.b ≡ a.n - 1 = omega arith in
     let n : 12 + (12 * a.n - 12) ≡ 12 * a.n = omega arith in
     let link₀ = put_mid 0 12 a.link.now w.new.1.0 in
-    let e = f.ensures.0 ∙ ap (framingOf s) p in
-    let first = link-rest s q 0 0 f.result a.link.now w.new.1.0 refl (omega arith) e w.ensures 12 refl a.link.now refl in
+    let e = f.ensures.0 ∙ ap (framing_of s) p in
+    let first = link_rest s q 0 0 f.result a.link.now w.new.1.0 refl (omega arith) e w.ensures 12 refl a.link.now refl in
     let rest = ap (λ m. drop m link₀) (sym n) ∙ sym (drop-drop (12 * a.n - 12) 12 link₀) ∙ ap (drop (12 * a.n - 12)) first
     ∙ drop-drop (12 * a.n - 12) 12 a.link.now ∙ ap (λ m. drop m a.link.now) n in (
-      parts-kept (linkBit s q) (12 * a.n) (12 * l.loop.b + 12) l.loop.link link₀ all v.3.1 v.3.2
-          ∙ ap (λ z. tab (12 * a.n) (linkBit s q) ++ z) rest,
+      parts_kept (link_bit s q) (12 * a.n) (12 * l.loop.b + 12) l.loop.link link₀ all v.3.1 v.3.2
+          ∙ ap (λ z. tab (12 * a.n) (link_bit s q) ++ z) rest,
       v.4 ∙ ap (λ b. count b (differs s q)) last,
     )
 
-pub judge-spec : {M : Type 1} → statement M
-judge-spec =
+pub judge_spec : {M : Type 1} → statement M
+judge_spec =
     tie.close
-    (tie.spec invariant-loop decreases-loop
-    framing-requires
+    (tie.spec invariant_loop decreases_loop
+    framing_requires
     (omega arith)
     (omega arith)
     (omega arith)
     (λ c κs. part_length 0 12 c.before.before.before.before.args.link.now (omega arith))
     (omega arith)
-    loop-holds
+    loop_holds
     (omega arith)
     (λ c. let d = c.before.before.before.before.before.before.before.before.before in omega (arith, d.requires.0.there, d.requires.0.countable))
     (λ c. let d = c.before.before.before.before.before.before.before.before.before in omega (arith, d.requires.0.there, d.requires.0.countable))
-    framing-requires-2
+    framing_requires_2
     (omega arith)
     (omega arith)
     (omega arith)
     (omega arith)
     (omega arith)
     (omega arith)
-    put-link-requires-2
+    put_link_requires_2
     (omega arith)
     (λ c.
     let d = c.before.before.before.before.before.before.before.before.before.before.before.before.before.before in
     omega (arith, d.requires.0.there, d.requires.0.countable))
-    check-at-requires
+    check_at_requires
     (search rules)
-    add-errored
+    add_errored
     (omega arith)
     (omega arith)
-    loop-again
+    loop_again
     (omega arith)
     returns)

@@ -7,7 +7,7 @@ use borrow.Author.Rules.{rules}
 use borrow.Author.Tests.{ltb-false}
 use lib.Dec.{ltb}
 use lib.ListN.{length}
-use Rattle.t1read.proofs.EntryLaws.{refused-4, accepts, refused_as}
+use Rattle.t1read.proofs.EntryLaws.{refused_4, accepts, refused_as}
 use Rattle.t1read.proofs.Answers.{Measured, measured, answered}
 use Rattle.t1read.proofs.read_from.Statement.{statement}
 use Rattle.t1read.proofs.read_from.Tie as tie
@@ -26,7 +26,7 @@ returns c =
     let p = d.args.payload.now in
     let o = d.args.link.now in
     let few = c.before.if1.true in
-    rw c.refused.ensures (refused_as s p o 3 (refused-4 s (length p) (length o) d.requires.0 _ d.requires.1 (rw (facts d).of at few)))
+    rw c.refused.ensures (refused_as s p o 3 (refused_4 s (length p) (length o) d.requires.0 _ d.requires.1 (rw (facts d).of at few)))
 
 -- the outputs have room
 fits : (c : tie.Else1)
@@ -39,8 +39,8 @@ fits c =
     let f = (or-eq-false-eq-eq-false-and-eq-false (ltb (length a.payload.now) (576 * m)) (ltb (length a.link.now) (12 * m))).0 c.if1.false in
     (ltb-false _ _ f.0, ltb-false _ _ f.1)
 
-returns-2 : tie.Need-returns-2
-returns-2 c =
+returns_2 : tie.Need-returns-2
+returns_2 c =
     let j = c.before.before in
     let y = j.before.before.before.before in
     let e = y.before.before in
@@ -55,8 +55,8 @@ returns-2 c =
     y.payload-of.ensures
     j.judge.ensures.0
 
-pub read-from-spec : {M : Type 1} → statement M
-read-from-spec =
+pub read_from_spec : {M : Type 1} → statement M
+read_from_spec =
     tie.close
     (tie.spec
     (search rules)
@@ -72,4 +72,4 @@ read-from-spec =
     (λ c. omega (arith, (facts c.before.before.before.before.before.before.before.before.before.before.before.before).two))
     (search rules)
     (search rules)
-    returns-2)
+    returns_2)

@@ -4,12 +4,12 @@ use mathlib.Core.List.{List, [], ◌∷◌}
 use borrow.Author.Rules.{rules}
 use lib.Bits.{bit_xor}
 use lib.ListN.{get_or}
-use Rattle.t1.specs.Superframe.{superCheck}
+use Rattle.t1.specs.Superframe.{super_check}
 use Rattle.t1.specs.Raw.{raw, lacking}
 use Rattle.t1sliced.specs.Sliced.{BitsFrom}
-use Rattle.t1sliced.proofs.Words.{below-six, sliced-same, plus-here, times-both}
-use Rattle.t1.proofs.Lacking.{whole-lt, whole-check}
-use Rattle.t1sliced.proofs.Agree.{ors, agree-exactly}
+use Rattle.t1sliced.proofs.Words.{below_six, sliced_same, plus_here, times_both}
+use Rattle.t1.proofs.Lacking.{whole_lt, whole_check}
+use Rattle.t1sliced.proofs.Agree.{ors, agree_exactly}
 use Rattle.t1sliced.proofs.agreeing.Statement.{statement}
 use Rattle.t1sliced.proofs.agreeing.Tie as tie
 
@@ -28,17 +28,17 @@ returns c =
     let l = p.before in
     let r = l.before in
     let s = r.before.before.args.part.now in
-    let whole = plus-here r.raws.result l.framings.result p.plus-later.result p.plus-later.ensures (raw s) (lacking s) r.raws.ensures l.framings.ensures in
-    let six = times-both 4 2 p.plus-later.result x4.times-x4.result x2.times-x2.result x4.times-x4.ensures x2.times-x2.ensures in
-    let check = sliced-same _ (superCheck s) x2.times-x2.result (λ o h. whole-check s o) (six (λ o. bit_xor (raw s o) (lacking s o)) (whole-lt s) whole) in
+    let whole = plus_here r.raws.result l.framings.result p.plus-later.result p.plus-later.ensures (raw s) (lacking s) r.raws.ensures l.framings.ensures in
+    let six = times_both 4 2 p.plus-later.result x4.times-x4.result x2.times-x2.result x4.times-x4.ensures x2.times-x2.ensures in
+    let check = sliced_same _ (super_check s) x2.times-x2.result (λ o h. whole_check s o) (six (λ o. bit_xor (raw s o) (lacking s o)) (whole_lt s) whole) in
     let carrying : List ℕ = f1.framing.result ∷ f2.framing2.result ∷ f3.framing3.result ∷ f4.framing4.result ∷ f5.framing5.result ∷ f6.framing6.result ∷ [] in
-    agree-exactly s x2.times-x2.result carrying check
-    (below-six (λ i. BitsFrom s (4825 + 772 * i) (get_or carrying i 0)) f1.framing.ensures f2.framing2.ensures f3.framing3.ensures
+    agree_exactly s x2.times-x2.result carrying check
+    (below_six (λ i. BitsFrom s (4825 + 772 * i) (get_or carrying i 0)) f1.framing.ensures f2.framing2.ensures f3.framing3.ensures
     f4.framing4.ensures f5.framing5.ensures f6.framing6.ensures)
     c.complement.result c.complement.ensures
 
-pub agreeing-spec : {M : Type 1} → statement M
-agreeing-spec =
+pub agreeing_spec : {M : Type 1} → statement M
+agreeing_spec =
     tie.close
     (tie.spec
     (search rules) (search rules) (search rules) (search rules) (search rules)

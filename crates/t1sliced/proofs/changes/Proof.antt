@@ -4,8 +4,8 @@ use mathlib.Core.List.{List, [], ◌∷◌}
 use borrow.Author.Rules.{rules}
 use lib.ListN.{get_or}
 use Rattle.t1sliced.specs.Sliced.{TopBit}
-use Rattle.t1sliced.proofs.Words.{below-six}
-use Rattle.t1sliced.proofs.Changed.{window-later, changes-sliced}
+use Rattle.t1sliced.proofs.Words.{below_six}
+use Rattle.t1sliced.proofs.Changed.{window_later, changes_sliced}
 use Rattle.t1sliced.proofs.changes.Statement.{statement}
 use Rattle.t1sliced.proofs.changes.Tie as tie
 
@@ -22,13 +22,13 @@ returns c =
     let s = start.args.part.now in
     let at = start.args.at in
     let tops : List ℕ = b0.top.result ∷ b1.top2.result ∷ b2.top3.result ∷ b3.top4.result ∷ b4.top5.result ∷ c.top6.result ∷ [] in
-    changes-sliced s tops at (come.result / 2) (gone.result / 2) start.requires.1
-    (below-six (λ t. TopBit at t (get_or tops t 0)) b0.top.ensures b1.top2.ensures b2.top3.ensures b3.top4.ensures
+    changes_sliced s tops at (come.result / 2) (gone.result / 2) start.requires.1
+    (below_six (λ t. TopBit at t (get_or tops t 0)) b0.top.ensures b1.top2.ensures b2.top3.ensures b3.top4.ensures
     b4.top5.ensures c.top6.ensures)
-    (window-later s 4632 come.result come.ensures) (window-later s 0 gone.result gone.ensures)
+    (window_later s 4632 come.result come.ensures) (window_later s 0 gone.result gone.ensures)
 
-pub changes-spec : {M : Type 1} → statement M
-changes-spec =
+pub changes_spec : {M : Type 1} → statement M
+changes_spec =
     tie.close
     (tie.spec
     (search rules) (search rules)

@@ -4,7 +4,7 @@ use mathlib.Core.List.{List, [], ◌∷◌}
 use lib.Dec.{lit<}
 use lib.ListN.{get_or}
 use Rattle.t1sliced.specs.Sliced.{BitsLater}
-use Rattle.t1sliced.proofs.Words.{below-six, plus-words}
+use Rattle.t1sliced.proofs.Words.{below_six, plus_words}
 use Rattle.t1sliced.proofs.plus_later.Statement.{statement}
 use Rattle.t1sliced.proofs.plus_later.Tie as tie
 
@@ -17,12 +17,12 @@ returns c =
     let b0 = b1.before in
     let a = b0.before.args in
     let x : List ℕ = b0.later.result ∷ b1.later2.result ∷ b2.later3.result ∷ b3.later4.result ∷ b4.later5.result ∷ c.later6.result ∷ [] in
-    plus-words a.n a.t1 a.t2 x
-    (below-six (λ t. BitsLater a.n (get_or a.t2 t 0) (get_or x t 0)) b0.later.ensures b1.later2.ensures b2.later3.ensures
+    plus_words a.n a.t1 a.t2 x
+    (below_six (λ t. BitsLater a.n (get_or a.t2 t 0) (get_or x t 0)) b0.later.ensures b1.later2.ensures b2.later3.ensures
     b3.later4.ensures b4.later5.ensures c.later6.ensures)
 
-pub plus-later-spec : {M : Type 1} → statement M
-plus-later-spec =
+pub plus_later_spec : {M : Type 1} → statement M
+plus_later_spec =
     tie.close
     (tie.spec
     (λ c. lit< tt) (λ c. lit< tt) (λ c κs. c.requires)

@@ -2,9 +2,9 @@
 use native.Mathlib.Omega.{arith}
 use borrow.Author.Rules.{rules}
 use Rattle.t1sliced.specs.Sliced.{change}
-use Rattle.t1sliced.proofs.Words.{sliced-same}
-use Rattle.t1sliced.proofs.Slides.{change-lt}
-use Rattle.t1sliced.proofs.Summed.{summed-one, summed-twice, raws-summed}
+use Rattle.t1sliced.proofs.Words.{sliced_same}
+use Rattle.t1sliced.proofs.Slides.{change_lt}
+use Rattle.t1sliced.proofs.Summed.{summed_one, summed_twice, raws_summed}
 use Rattle.t1sliced.proofs.raws.Statement.{statement}
 use Rattle.t1sliced.proofs.raws.Tie as tie
 
@@ -24,18 +24,18 @@ returns c =
     let p1 = t1.before in
     let start = p1.before.before in
     let s = start.args.part.now in
-    let lt = change-lt s in
-    let h1 = summed-one (change s) lt p1.changes.result p1.changes.ensures in
-    let h2 = summed-twice (change s) lt 1 p1.changes.result t1.times-x.result p2.plus-later.result h1 t1.times-x.ensures p2.plus-later.ensures in
-    let h4 = summed-twice (change s) lt 2 p2.plus-later.result t2.times-x2.result p4.plus-later2.result h2 t2.times-x2.ensures p4.plus-later2.ensures in
-    let h8 = summed-twice (change s) lt 4 p4.plus-later2.result t4.times-x4.result p8.plus-later3.result h4 t4.times-x4.ensures p8.plus-later3.ensures in
-    let h16 = summed-twice (change s) lt 8 p8.plus-later3.result t8.times-x8.result p16.plus-later4.result h8 t8.times-x8.ensures p16.plus-later4.ensures in
-    let h32 = summed-twice (change s) lt 16 p16.plus-later4.result t16.times-x16.result p32.plus-later5.result h16 t16.times-x16.ensures p32.plus-later5.ensures in
-    let h64 = summed-twice (change s) lt 32 p32.plus-later5.result t32.times-x32.result c.plus-later6.result h32 t32.times-x32.ensures c.plus-later6.ensures in
-    sliced-same _ _ c.plus-later6.result (λ o h. raws-summed s o (omega arith)) h64
+    let lt = change_lt s in
+    let h1 = summed_one (change s) lt p1.changes.result p1.changes.ensures in
+    let h2 = summed_twice (change s) lt 1 p1.changes.result t1.times-x.result p2.plus-later.result h1 t1.times-x.ensures p2.plus-later.ensures in
+    let h4 = summed_twice (change s) lt 2 p2.plus-later.result t2.times-x2.result p4.plus-later2.result h2 t2.times-x2.ensures p4.plus-later2.ensures in
+    let h8 = summed_twice (change s) lt 4 p4.plus-later2.result t4.times-x4.result p8.plus-later3.result h4 t4.times-x4.ensures p8.plus-later3.ensures in
+    let h16 = summed_twice (change s) lt 8 p8.plus-later3.result t8.times-x8.result p16.plus-later4.result h8 t8.times-x8.ensures p16.plus-later4.ensures in
+    let h32 = summed_twice (change s) lt 16 p16.plus-later4.result t16.times-x16.result p32.plus-later5.result h16 t16.times-x16.ensures p32.plus-later5.ensures in
+    let h64 = summed_twice (change s) lt 32 p32.plus-later5.result t32.times-x32.result c.plus-later6.result h32 t32.times-x32.ensures c.plus-later6.ensures in
+    sliced_same _ _ c.plus-later6.result (λ o h. raws_summed s o (omega arith)) h64
 
-pub raws-spec : {M : Type 1} → statement M
-raws-spec =
+pub raws_spec : {M : Type 1} → statement M
+raws_spec =
     tie.close
     (tie.spec (search rules)
     (search rules) (search rules)

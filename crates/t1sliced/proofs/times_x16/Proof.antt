@@ -1,6 +1,6 @@
 -- `times_x16` meets its contract.
 use borrow.Author.Rules.{rules}
-use Rattle.t1sliced.proofs.Words.{times-both}
+use Rattle.t1sliced.proofs.Words.{times_both}
 use Rattle.t1sliced.proofs.times_x16.Statement.{statement}
 use Rattle.t1sliced.proofs.times_x16.Tie as tie
 
@@ -8,7 +8,7 @@ returns : tie.Need-returns
 returns c =
     let first = c.before.times-x8 in
     let second = c.times-x82 in
-    times-both 8 8 c.before.before.args.a first.result second.result first.ensures second.ensures
+    times_both 8 8 c.before.before.args.a first.result second.result first.ensures second.ensures
 
-pub times-x16-spec : {M : Type 1} → statement M
-times-x16-spec = tie.close (tie.spec (search rules) (search rules) returns)
+pub times_x16_spec : {M : Type 1} → statement M
+times_x16_spec = tie.close (tie.spec (search rules) (search rules) returns)

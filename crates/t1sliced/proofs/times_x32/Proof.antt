@@ -1,6 +1,6 @@
 -- `times_x32` meets its contract.
 use borrow.Author.Rules.{rules}
-use Rattle.t1sliced.proofs.Words.{times-both, times_32}
+use Rattle.t1sliced.proofs.Words.{times_both, times_32}
 use Rattle.t1sliced.proofs.times_x32.Statement.{statement}
 use Rattle.t1sliced.proofs.times_x32.Tie as tie
 
@@ -10,7 +10,7 @@ returns c =
     let thrice = c.before.times-x in
     let a = c.before.before.before.args.a in
     times_32 a thrice.result c.plus-later.result
-    (times-both 2 1 a twice.result thrice.result twice.ensures thrice.ensures) c.plus-later.ensures
+    (times_both 2 1 a twice.result thrice.result twice.ensures thrice.ensures) c.plus-later.ensures
 
-pub times-x32-spec : {M : Type 1} → statement M
-times-x32-spec = tie.close (tie.spec (search rules) (search rules) (search rules) returns)
+pub times_x32_spec : {M : Type 1} → statement M
+times_x32_spec = tie.close (tie.spec (search rules) (search rules) (search rules) returns)

@@ -1,6 +1,6 @@
 -- `times_x4` meets its contract.
 use borrow.Author.Rules.{rules}
-use Rattle.t1sliced.proofs.Words.{times-both}
+use Rattle.t1sliced.proofs.Words.{times_both}
 use Rattle.t1sliced.proofs.times_x4.Statement.{statement}
 use Rattle.t1sliced.proofs.times_x4.Tie as tie
 
@@ -8,7 +8,7 @@ returns : tie.Need-returns
 returns c =
     let first = c.before.times-x2 in
     let second = c.times-x22 in
-    times-both 2 2 c.before.before.args.a first.result second.result first.ensures second.ensures
+    times_both 2 2 c.before.before.args.a first.result second.result first.ensures second.ensures
 
-pub times-x4-spec : {M : Type 1} → statement M
-times-x4-spec = tie.close (tie.spec (search rules) (search rules) returns)
+pub times_x4_spec : {M : Type 1} → statement M
+times_x4_spec = tie.close (tie.spec (search rules) (search rules) returns)

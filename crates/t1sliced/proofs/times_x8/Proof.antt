@@ -1,6 +1,6 @@
 -- `times_x8` meets its contract.
 use borrow.Author.Rules.{rules}
-use Rattle.t1sliced.proofs.Words.{times-both}
+use Rattle.t1sliced.proofs.Words.{times_both}
 use Rattle.t1sliced.proofs.times_x8.Statement.{statement}
 use Rattle.t1sliced.proofs.times_x8.Tie as tie
 
@@ -8,7 +8,7 @@ returns : tie.Need-returns
 returns c =
     let first = c.before.times-x4 in
     let second = c.times-x42 in
-    times-both 4 4 c.before.before.args.a first.result second.result first.ensures second.ensures
+    times_both 4 4 c.before.before.args.a first.result second.result first.ensures second.ensures
 
-pub times-x8-spec : {M : Type 1} → statement M
-times-x8-spec = tie.close (tie.spec (search rules) (search rules) returns)
+pub times_x8_spec : {M : Type 1} → statement M
+times_x8_spec = tie.close (tie.spec (search rules) (search rules) returns)

@@ -36,14 +36,14 @@ returns c n e h =
     frame_on s (n + 7) (n + 8) (8 * (a.i + 168) + 7) f8.framing8.result (omega arith) (omega arith) f8.framing8.ensures w7.with-frame7.result c.with-frame8.result c.with-frame8.ensures h7
 
 -- the contract lies too far back for the search
-add-framing-7 : tie.Need-overflow-add-framing-7
-add-framing-7 c = omega (arith, c.before.before.before.before.before.before.before.before.before.before.before.before.before.before.before.requires.1)
+add_framing_7 : tie.Need-overflow-add-framing-7
+add_framing_7 c = omega (arith, c.before.before.before.before.before.before.before.before.before.before.before.before.before.before.before.requires.1)
 
-framing-requires-8 : tie.Need-framing-requires-8
-framing-requires-8 c κs = let pre = c.before.before.before.before.before.before.before.before.before.before.before.before.before.before.before.requires in (pre.0, omega arith, lit< tt)
+framing_requires_8 : tie.Need-framing-requires-8
+framing_requires_8 c κs = let pre = c.before.before.before.before.before.before.before.before.before.before.before.before.before.before.before.requires in (pre.0, omega arith, lit< tt)
 
-pub with-eight-spec : {M : Type 1} → statement M
-with-eight-spec =
+pub with_eight_spec : {M : Type 1} → statement M
+with_eight_spec =
     tie.close
     (tie.spec
     (search rules) (search rules)
@@ -53,5 +53,5 @@ with-eight-spec =
     (search rules) (search rules) (search rules)
     (search rules) (search rules) (search rules)
     (search rules) (search rules) (search rules)
-    add-framing-7 framing-requires-8 (search rules)
+    add_framing_7 framing_requires_8 (search rules)
     returns)

@@ -10,15 +10,15 @@ use lib.Bits.{bit_or, or_lt, or_add_and, and_le_l, and_le_r}
 use lib.Dec.{ltb}
 use lib.ListN.{length, get_or}
 use Rattle.base.specs.Tab.{all}
-use Rattle.t1write.specs.Entry.{areBits}
+use Rattle.t1write.specs.Entry.{are_bits}
 use Rattle.t1write.proofs.are_bits.Statement.{statement}
 use Rattle.t1write.proofs.are_bits.Tie as tie
 
-abbrev invariant-loop : tie.invariant-loop
-invariant-loop octets n all₀ i₀ all' i = (i ≤ n) × (length octets ≡ n) × (ltb all' 2 ≡ all i (λ i. ltb (get_or octets i 0) 2))
+abbrev invariant_loop : tie.invariant_loop
+invariant_loop octets n all₀ i₀ all' i = (i ≤ n) × (length octets ≡ n) × (ltb all' 2 ≡ all i (λ i. ltb (get_or octets i 0) 2))
 
-abbrev decreases-loop : tie.decreases-loop
-decreases-loop octets n all₀ i₀ all' i = n - i
+abbrev decreases_loop : tie.decreases_loop
+decreases_loop octets n all₀ i₀ all' i = n - i
 
 -- x | y is a bit exactly where both are
 both_bits : (x y : ℕ) → ltb (bit_or x y) 2 ≡ ltb x 2 && ltb y 2
@@ -33,21 +33,21 @@ both_bits x y =
       | no h ↦ rw (le-ltb x 2 (omega arith)) (le-ltb (bit_or x y) 2 (omega (arith, and_le_r x y)))
     ]
 
-loop-holds : tie.Need-loop-init invariant-loop decreases-loop
+loop_holds : tie.Need-loop-init invariant_loop decreases_loop
 unfolding all
-loop-holds c = (omega arith, omega arith, refl)
+loop_holds c = (omega arith, omega arith, refl)
 
-loop-again : tie.Need-loop-preserved invariant-loop decreases-loop
+loop_again : tie.Need-loop-preserved invariant_loop decreases_loop
 unfolding all
-loop-again c =
+loop_again c =
     let l = c.before.before in
     let i = l.loop.invariant in
     let x = get_or l.before.before.args.octets.now l.loop.i 0 in
     (omega arith, i.1, both_bits l.loop.all x ∙ ap (λ b. b && ltb x 2) i.2 ∙ rw add-one)
 
-returns-2 : tie.Need-returns-2 invariant-loop decreases-loop
-unfolding areBits
-returns-2 c =
+returns_2 : tie.Need-returns-2 invariant_loop decreases_loop
+unfolding are_bits
+returns_2 c =
     let l = c.before in
     let a = l.before.before.args in
     let o = a.octets.now in
@@ -55,10 +55,10 @@ returns-2 c =
     let e : l.loop.i ≡ a.n = omega arith in
     i.2 ∙ ap (λ n. all n (λ i. ltb (get_or o i 0) 2)) e ∙ sym (ap (λ b. b && all a.n (λ i. ltb (get_or o i 0) 2)) (eq-eqb _ _ i.1))
 
-pub are-bits-spec : {M : Type 1} → statement M
-unfolding areBits
-are-bits-spec =
+pub are_bits_spec : {M : Type 1} → statement M
+unfolding are_bits
+are_bits_spec =
     tie.close
-    (tie.spec invariant-loop decreases-loop
+    (tie.spec invariant_loop decreases_loop
     (λ c. simp (ne_eqb _ _ c.if1.true))
-    loop-holds (omega arith) (omega arith) (omega arith) loop-again returns-2)
+    loop_holds (omega arith) (omega arith) (omega arith) loop_again returns_2)

@@ -4,7 +4,7 @@ use mathlib.Core.Path.{◌≡◌, sym, ap, ◌∙◌}
 use native.Mathlib.Omega.{arith}
 use borrow.Author.Rules.{rules}
 use lib.Bits.{bit_or}
-use Rattle.line.proofs.BitLaws.{shifts-join}
+use Rattle.line.proofs.BitLaws.{shifts_join}
 use Rattle.t1write.proofs.joined.Statement.{statement}
 use Rattle.t1write.proofs.joined.Tie as tie
 
@@ -15,7 +15,7 @@ returns c =
     let d : 63 - a.g + (a.g + 1) ≡ 64 = omega arith in
     let h : a.low < 2 ^ (63 - a.g + (a.g + 1)) = rw d (omega arith) in
     ap (λ n. bit_or (a.high * 2 ^ (63 - a.g) % 2 ^ n) (a.low / 2 ^ (a.g + 1))) (sym e)
-    ∙ shifts-join a.high a.low (a.g + 1) (63 - a.g) h
+    ∙ shifts_join a.high a.low (a.g + 1) (63 - a.g) h
 
-pub joined-spec : {M : Type 1} → statement M
-joined-spec = tie.close (tie.spec (search rules) (search rules) (search rules) (search rules) returns)
+pub joined_spec : {M : Type 1} → statement M
+joined_spec = tie.close (tie.spec (search rules) (search rules) (search rules) (search rules) returns)

@@ -10,33 +10,33 @@ use mir.Val.{Fits}
 use lib.Dec.{lit<}
 use lib.ListN.{length, get_or, take, length-set, get_or-eq_default}
 use Rattle.base.proofs.PartLaws.{copy_more, copy_done}
-use Rattle.t1write.proofs.Signals.{set_below, Replacing, none-replaced, five-kept, one-replaced, all-replaced}
+use Rattle.t1write.proofs.Signals.{set_below, Replacing, none_replaced, five_kept, one_replaced, all_replaced}
 use Rattle.t1write.proofs.replaced.Statement.{statement}
 use Rattle.t1write.proofs.replaced.Tie as tie
 
-abbrev invariant-loop : tie.invariant-loop
-invariant-loop payload signalling octets₀ i₀ octets i =
+abbrev invariant_loop : tie.invariant_loop
+invariant_loop payload signalling octets₀ i₀ octets i =
     (i ≤ 576) × (length octets ≡ 576) × (take i octets ≡ take i payload) × ((j : ℕ) → j < i → get_or payload j 0 < 256)
 
-abbrev decreases-loop : tie.decreases-loop
-decreases-loop payload signalling octets₀ i₀ octets i = 576 - i
+abbrev decreases_loop : tie.decreases_loop
+decreases_loop payload signalling octets₀ i₀ octets i = 576 - i
 
-abbrev invariant-loop3 : tie.invariant-loop3
-invariant-loop3 payload signalling octets₀ k j₀ octets j =
+abbrev invariant_loop3 : tie.invariant_loop3
+invariant_loop3 payload signalling octets₀ k j₀ octets j =
     (j ≤ 24) × Replacing payload signalling octets (144 * k + 120 + j) × ((i : ℕ) → get_or octets i 0 < 256)
 
-abbrev decreases-loop3 : tie.decreases-loop3
-decreases-loop3 payload signalling octets₀ k j₀ octets j = 24 - j
+abbrev decreases_loop3 : tie.decreases_loop3
+decreases_loop3 payload signalling octets₀ k j₀ octets j = 24 - j
 
-abbrev invariant-loop2 : tie.invariant-loop2
-invariant-loop2 payload signalling octets₀ k₀ octets k =
+abbrev invariant_loop2 : tie.invariant_loop2
+invariant_loop2 payload signalling octets₀ k₀ octets k =
     (k ≤ 4) × Replacing payload signalling octets (144 * k) × ((i : ℕ) → get_or octets i 0 < 256)
 
-abbrev decreases-loop2 : tie.decreases-loop2
-decreases-loop2 payload signalling octets₀ k₀ octets k = 4 - k
+abbrev decreases_loop2 : tie.decreases_loop2
+decreases_loop2 payload signalling octets₀ k₀ octets k = 4 - k
 
-loop-again : tie.Need-loop-preserved invariant-loop decreases-loop invariant-loop3 decreases-loop3 invariant-loop2 decreases-loop2
-loop-again c =
+loop_again : tie.Need-loop-preserved invariant_loop decreases_loop invariant_loop3 decreases_loop3 invariant_loop2 decreases_loop2
+loop_again c =
     let l = c.before.before.loop in
     let payload = c.before.before.before.args.payload.now in (
       omega arith,
@@ -45,13 +45,13 @@ loop-again c =
       λ j h. (c.shared-slice-known.given j).fits,
     )
 
-loop2-holds : tie.Need-loop2-init invariant-loop decreases-loop invariant-loop3 decreases-loop3 invariant-loop2 decreases-loop2
-loop2-holds c =
+loop2_holds : tie.Need-loop2-init invariant_loop decreases_loop invariant_loop3 decreases_loop3 invariant_loop2 decreases_loop2
+loop2_holds c =
     let l = c.before.loop in
     let a = c.before.before.args in
     let e = copy_done l.octets a.payload.now l.i (omega arith) (omega arith) l.invariant.2 in (
       omega arith,
-      none-replaced a.payload.now a.signalling.now l.octets e,
+      none_replaced a.payload.now a.signalling.now l.octets e,
       λ i.
           elim (dec_lt i 576) [
             | yes h ↦ rw e (l.invariant.3 i (omega arith))
@@ -59,53 +59,53 @@ loop2-holds c =
           ],
     )
 
-loop3-holds : tie.Need-loop3-init invariant-loop decreases-loop invariant-loop3 decreases-loop3 invariant-loop2 decreases-loop2
-loop3-holds c =
+loop3_holds : tie.Need-loop3-init invariant_loop decreases_loop invariant_loop3 decreases_loop3 invariant_loop2 decreases_loop2
+loop3_holds c =
     let l = c.before.loop2 in
     let a = c.before.before.before.before.args in
-    (omega arith, five-kept a.payload.now a.signalling.now l.octets l.k _ (add-zero _) l.invariant.1, l.invariant.2)
+    (omega arith, five_kept a.payload.now a.signalling.now l.octets l.k _ (add-zero _) l.invariant.1, l.invariant.2)
 
 -- an octet whose last bit is replaced is one
-half-fits : (x : ℕ) → x < 256 → Fits w8 (2 * (x / 2))
-half-fits x h = omega arith
+half_fits : (x : ℕ) → x < 256 → Fits w8 (2 * (x / 2))
+half_fits x h = omega arith
 
-octet-fits : (x s : ℕ) → x < 256 → s < 2 → Fits w8 (2 * (x / 2) + s)
-octet-fits x s h k = omega arith
+octet_fits : (x s : ℕ) → x < 256 → s < 2 → Fits w8 (2 * (x / 2) + s)
+octet_fits x s h k = omega arith
 
-loop3-again : tie.Need-loop3-preserved invariant-loop decreases-loop invariant-loop3 decreases-loop3 invariant-loop2 decreases-loop2
-loop3-again c =
+loop3_again : tie.Need-loop3-preserved invariant_loop decreases_loop invariant_loop3 decreases_loop3 invariant_loop2 decreases_loop2
+loop3_again c =
     let l = c.before.before.loop3 in
     let k = c.before.before.before.before.loop2.k in
     let s = c.before.before.before.before.before.before.before in
     let a = s.args in (
       omega arith,
-      one-replaced a.payload.now a.signalling.now l.octets k l.j (144 * k + 120 + l.j) (144 * k + 120 + (l.j + 1))
+      one_replaced a.payload.now a.signalling.now l.octets k l.j (144 * k + 120 + l.j) (144 * k + 120 + (l.j + 1))
           (omega arith) refl (omega arith) (omega arith) l.invariant.1,
-      set_below l.octets (144 * k + 120 + l.j) 256 _ l.invariant.2 (octet-fits _ _ (l.invariant.2 _) (s.requires.1.bits _)).fits,
+      set_below l.octets (144 * k + 120 + l.j) 256 _ l.invariant.2 (octet_fits _ _ (l.invariant.2 _) (s.requires.1.bits _)).fits,
     )
 
-loop2-again : tie.Need-loop2-preserved invariant-loop decreases-loop invariant-loop3 decreases-loop3 invariant-loop2 decreases-loop2
-loop2-again c =
+loop2_again : tie.Need-loop2-preserved invariant_loop decreases_loop invariant_loop3 decreases_loop3 invariant_loop2 decreases_loop2
+loop2_again c =
     let l = c.before.loop3 in
     let k = c.before.before.before.loop2.k in
     let a = c.before.before.before.before.before.before.args in
     let e : 144 * k + 120 + l.j ≡ 144 * (k + 1) = omega arith in
     (omega arith, subst (Replacing a.payload.now a.signalling.now l.octets) e l.invariant.1, l.invariant.2)
 
-returns : tie.Need-returns invariant-loop decreases-loop invariant-loop3 decreases-loop3 invariant-loop2 decreases-loop2
+returns : tie.Need-returns invariant_loop decreases_loop invariant_loop3 decreases_loop3 invariant_loop2 decreases_loop2
 returns c =
     let l = c.before.loop2 in
     let a = c.before.before.before.before.args in
-    all-replaced a.payload.now a.signalling.now l.octets (144 * l.k) (omega arith) l.invariant.1
+    all_replaced a.payload.now a.signalling.now l.octets (144 * l.k) (omega arith) l.invariant.1
 
-pub replaced-spec : {M : Type 1} → statement M
-replaced-spec =
+pub replaced_spec : {M : Type 1} → statement M
+replaced_spec =
     tie.close
-    (tie.spec invariant-loop decreases-loop invariant-loop3 decreases-loop3 invariant-loop2 decreases-loop2
+    (tie.spec invariant_loop decreases_loop invariant_loop3 decreases_loop3 invariant_loop2 decreases_loop2
     (λ c. (omega arith, refl, refl, λ j h. absurd (omega arith)))
-    (omega arith) (omega arith) (omega arith) (omega arith) loop-again
-    loop2-holds loop3-holds (omega arith) (omega arith) (omega arith) (omega arith)
-    (λ c. half-fits _ (c.before.loop3.invariant.2 _))
+    (omega arith) (omega arith) (omega arith) (omega arith) loop_again
+    loop2_holds loop3_holds (omega arith) (omega arith) (omega arith) (omega arith)
+    (λ c. half_fits _ (c.before.loop3.invariant.2 _))
     (omega arith) (omega arith) (omega arith)
-    (λ c. octet-fits _ _ (c.before.before.loop3.invariant.2 _) (c.before.before.before.before.before.before.before.requires.1.bits _))
-    (omega arith) (omega arith) (omega arith) loop3-again (omega arith) (omega arith) loop2-again returns)
+    (λ c. octet_fits _ _ (c.before.before.loop3.invariant.2 _) (c.before.before.before.before.before.before.before.requires.1.bits _))
+    (omega arith) (omega arith) (omega arith) loop3_again (omega arith) (omega arith) loop2_again returns)

@@ -5,10 +5,10 @@ use native.Mathlib.Omega.{arith}
 use borrow.Author.Rules.{rules}
 use borrow.Author.Tests.{lt-ltb, le-ltb}
 use lib.ListN.{length}
-use Rattle.base.specs.Answer.{first_of}
+use Rattle.base.specs.Answer.{first_number}
 use Rattle.t1.specs.Payload.{superframes}
 use Rattle.t1write.specs.Entry.{faults}
-use Rattle.t1write.proofs.Calls.{fault-first, no-fault, sound-is, wrote, told-no, told-yes}
+use Rattle.t1write.proofs.Calls.{fault_first, no_fault, sound_is, wrote, told_no, told_yes}
 use Rattle.t1write.proofs.write.Statement.{statement}
 use Rattle.t1write.proofs.write.Tie as tie
 
@@ -16,7 +16,7 @@ use Rattle.t1write.proofs.write.Tie as tie
 abbrev start : tie.Else1 → tie.Start
 start c = c.before.before.before.before.before
 
-sound : (c : tie.Else1) → let a = (start c).args in first_of (faults a.payload.now a.link.now a.check) ≡ 0
+sound : (c : tie.Else1) → let a = (start c).args in first_number (faults a.payload.now a.link.now a.check) ≡ 0
 sound c = sym c.before.fault.ensures ∙ c.if1.false
 
 returns : tie.Need-returns
@@ -25,36 +25,36 @@ returns c =
     let a = f.before.before.before.before.args in
     let p = a.payload.now in
     let l = a.link.now in
-    let n = fault-first p l a.check (length a.out.now) f.fault.result f.fault.ensures c.if1.true in
-    wrote.1 (told-no _ p l a.check a.out.now f.fault.result n c.if1.true)
+    let n = fault_first p l a.check (length a.out.now) f.fault.result f.fault.ensures c.if1.true in
+    wrote.1 (told_no _ p l a.check a.out.now f.fault.result n c.if1.true)
 
-returns-2 : tie.Need-returns-2
-returns-2 c =
+returns_2 : tie.Need-returns-2
+returns_2 c =
     let e = c.before in
     let a = (start e).args in
     let p = a.payload.now in
     let l = a.link.now in
-    let n = no-fault p l a.check (length a.out.now) (sound e) true (lt-ltb _ _ c.if2.true) in
-    wrote.1 (told-no _ p l a.check a.out.now 4 n (λ z. omega arith))
+    let n = no_fault p l a.check (length a.out.now) (sound e) true (lt-ltb _ _ c.if2.true) in
+    wrote.1 (told_no _ p l a.check a.out.now 4 n (λ z. omega arith))
 
-write-all-requires : tie.Need-write-all-requires
-write-all-requires c κs =
+write_all_requires : tie.Need-write-all-requires
+write_all_requires c κs =
     let e = c.before.before in
     let a = (start e).args in
-    (((sound-is a.payload.now a.link.now a.check).0 (sound e)).inputs, c.before.if2.false)
+    (((sound_is a.payload.now a.link.now a.check).0 (sound e)).inputs, c.before.if2.false)
 
-returns-3 : tie.Need-returns-3
-returns-3 c =
+returns_3 : tie.Need-returns-3
+returns_3 c =
     let w = c.before.before in
     let d = w.before.before in
     let e = d.before in
     let a = (start e).args in
     let p = a.payload.now in
     let l = a.link.now in
-    let n = no-fault p l a.check (length a.out.now) (sound e) false (le-ltb _ _ d.if2.false) in
+    let n = no_fault p l a.check (length a.out.now) (sound e) false (le-ltb _ _ d.if2.false) in
     wrote.1
-    (told-yes _ p l a.check a.out.now n (superframes p) w.write-all.result w.write-all.new.1.1.1.1.0 refl
+    (told_yes _ p l a.check a.out.now n (superframes p) w.write-all.result w.write-all.new.1.1.1.1.0 refl
     w.write-all.ensures.1 w.write-all.ensures.0)
 
 pub write_spec : {M : Type 1} → statement M
-write_spec = tie.close (tie.spec (search rules) returns (search rules) returns-2 write-all-requires (search rules) returns-3)
+write_spec = tie.close (tie.spec (search rules) returns (search rules) returns_2 write_all_requires (search rules) returns_3)

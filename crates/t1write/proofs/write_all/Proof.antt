@@ -4,49 +4,49 @@ use Prim.Native.Nat.{◌+◌, ◌-◌, ◌*◌, ◌≤◌}
 use mathlib.Core.Path.{◌≡◌, refl, ◌∙◌}
 use native.Mathlib.Omega.{arith}
 use lib.ListN.{length, take, drop}
-use Rattle.base.specs.Tab.{tabFrom}
+use Rattle.base.specs.Tab.{tab_from}
 use Rattle.base.proofs.PartLaws.{part_length}
 use Rattle.line.specs.Spelt.{packed}
 use Rattle.t1write.specs.Writing.{carries, written}
-use Rattle.t1write.proofs.Parts.{part-bits, part-later, all_more, all_done}
+use Rattle.t1write.proofs.Parts.{part_bits, part_later, all_more, all_done}
 use Rattle.t1write.proofs.write_all.Statement.{statement}
 use Rattle.t1write.proofs.write_all.Tie as tie
 
-abbrev invariant-loop : tie.invariant-loop
-invariant-loop payload link check n out₀ k₀ m₀ out k m =
+abbrev invariant_loop : tie.invariant_loop
+invariant_loop payload link check n out₀ k₀ m₀ out k m =
     (m ≤ n) × (length out ≡ length out₀) × (k ≡ carries payload check m) × (take (579 * m) out ≡ written payload link check m)
     × (drop (579 * m) out ≡ drop (579 * m) out₀)
 
-abbrev decreases-loop : tie.decreases-loop
-decreases-loop payload link check n out₀ k₀ m₀ out k m = n - m
+abbrev decreases_loop : tie.decreases_loop
+decreases_loop payload link check n out₀ k₀ m₀ out k m = n - m
 
-loop-holds : tie.Need-loop-init invariant-loop decreases-loop
-unfolding written carries packed tabFrom
-loop-holds c = (omega arith, refl, refl, refl, refl)
+loop_holds : tie.Need-loop-init invariant_loop decreases_loop
+unfolding written carries packed tab_from
+loop_holds c = (omega arith, refl, refl, refl, refl)
 
-write-superframe-requires : tie.Need-write-superframe-requires invariant-loop decreases-loop
-write-superframe-requires c κs =
+write_superframe_requires : tie.Need-write-superframe-requires invariant_loop decreases_loop
+write_superframe_requires c κs =
     let l = c.before.before.before.before in
     let s = l.before.before.before.before in
     let a = s.args in
     let m = l.loop.m in (
       part_length (576 * m) (576 * m + 576) a.payload.now (omega arith) ∙ omega arith,
-      part-bits a.link.now (12 * m) (12 * m + 12) (12 * a.n) 12 s.requires.0.link (omega arith) (omega arith) (omega arith),
+      part_bits a.link.now (12 * m) (12 * m + 12) (12 * a.n) 12 s.requires.0.link (omega arith) (omega arith) (omega arith),
       part_length (579 * m) (579 * m + 579) l.loop.out (omega arith) ∙ omega arith,
     )
 
-loop-again : tie.Need-loop-preserved invariant-loop decreases-loop
-loop-again c =
+loop_again : tie.Need-loop-preserved invariant_loop decreases_loop
+loop_again c =
     let w = c.before.before in
     let l = w.before.before.before.before.before in
     let a = l.before.before.before.before.args in
     let i = l.loop.invariant in
-    let e = all_more (part-later a.payload.now a.link.now l.loop.m) a.check l.loop.k w.write-superframe.result
+    let e = all_more (part_later a.payload.now a.link.now l.loop.m) a.check l.loop.k w.write-superframe.result
     l.loop.out w.write-superframe.new.1.1.1.0 a.out.now (omega arith) i.2 w.write-superframe.ensures.0
     w.write-superframe.ensures.1 i.3 i.4 in
     (omega arith, omega (arith, c.before.out.given.1), e.2, e.0, e.1)
 
-returns : tie.Need-returns invariant-loop decreases-loop
+returns : tie.Need-returns invariant_loop decreases_loop
 returns c =
     let l = c.before in
     let a = l.before.before.before.before.args in
@@ -54,10 +54,10 @@ returns c =
     all_done a.payload.now a.link.now a.check l.loop.m a.n l.loop.k l.loop.out a.out.now (omega arith)
     i.2 i.3 i.4
 
-pub write-all-spec : {M : Type 1} → statement M
-write-all-spec =
+pub write_all_spec : {M : Type 1} → statement M
+write_all_spec =
     tie.close
-    (tie.spec invariant-loop decreases-loop
-    loop-holds (omega arith) (omega arith) (omega arith) (omega arith) (omega arith) (omega arith) (omega arith)
+    (tie.spec invariant_loop decreases_loop
+    loop_holds (omega arith) (omega arith) (omega arith) (omega arith) (omega arith) (omega arith) (omega arith)
     (omega arith) (omega arith) (omega arith) (omega arith) (omega arith) (omega arith) (omega arith) (omega arith)
-    write-superframe-requires (omega arith) (omega arith) loop-again (omega arith) returns)
+    write_superframe_requires (omega arith) (omega arith) loop_again (omega arith) returns)

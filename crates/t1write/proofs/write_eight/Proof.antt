@@ -6,69 +6,69 @@ use mathlib.Core.List.{List}
 use native.Mathlib.Omega.{arith}
 use borrow.Rule.Slice.PartMut.{put_mid}
 use lib.ListN.{length, get_or, take, set, length-set}
-use Rattle.base.specs.Tab.{tab, tabFrom}
+use Rattle.base.specs.Tab.{tab, tab_from}
 use Rattle.base.proofs.PartLaws.{part_length}
-use Rattle.base.proofs.TabLaws.{fill_more, tab-fill}
+use Rattle.base.proofs.TabLaws.{fill_more, tab_fill}
 use Rattle.line.specs.Bit.{field}
 use Rattle.line.specs.Spelt.{packed, spelt}
-use Rattle.t1write.proofs.Words.{framesOctet, field-last, first_word, next_word, word_more, last-octet}
+use Rattle.t1write.proofs.Words.{frames_octet, field_last, first_word, next_word, word_more, last_octet}
 use Rattle.t1write.proofs.write_eight.Statement.{statement}
 use Rattle.t1write.proofs.write_eight.Tie as tie
 
-abbrev invariant-loop : tie.invariant-loop
-invariant-loop octets framing out₀ before₀ g₀ out before g =
+abbrev invariant_loop : tie.invariant_loop
+invariant_loop octets framing out₀ before₀ g₀ out before g =
     (g ≤ 8) × (length out ≡ 193) × (before % 2 ^ g ≡ field octets (191 * g) g) ×
-    (take (24 * g) out ≡ tab (24 * g) (framesOctet octets framing))
+    (take (24 * g) out ≡ tab (24 * g) (frames_octet octets framing))
 
-abbrev decreases-loop : tie.decreases-loop
-decreases-loop octets framing out₀ before₀ g₀ out before g = 8 - g
+abbrev decreases_loop : tie.decreases_loop
+decreases_loop octets framing out₀ before₀ g₀ out before g = 8 - g
 
-loop-holds : tie.Need-loop-init invariant-loop decreases-loop
-unfolding field spelt tabFrom
-loop-holds c = (omega arith, c.before.before.requires.1, refl, refl)
+loop_holds : tie.Need-loop-init invariant_loop decreases_loop
+unfolding field spelt tab_from
+loop_holds c = (omega arith, c.before.before.requires.1, refl, refl)
 
-abbrev start : tie.At-loop invariant-loop decreases-loop → tie.Start invariant-loop decreases-loop
+abbrev start : tie.At-loop invariant_loop decreases_loop → tie.Start invariant_loop decreases_loop
 start l = l.before.before.before
 
 -- octet i, as the contract has it
-abbrev octet : tie.At-loop invariant-loop decreases-loop → ℕ → ℕ
-octet l = let a = (start l).args in framesOctet a.octets.now a.framing
+abbrev octet : tie.At-loop invariant_loop decreases_loop → ℕ → ℕ
+octet l = let a = (start l).args in frames_octet a.octets.now a.framing
 
 -- the way back from each word
-abbrev loop-of : tie.After-window3 invariant-loop decreases-loop → tie.At-loop invariant-loop decreases-loop
-loop-of c = c.before.before.before.before
+abbrev loop_of : tie.After-window3 invariant_loop decreases_loop → tie.At-loop invariant_loop decreases_loop
+loop_of c = c.before.before.before.before
 
-abbrev windows-of : tie.After-out invariant-loop decreases-loop → tie.After-window3 invariant-loop decreases-loop
-windows-of c = c.before.before.before.before
+abbrev windows_of : tie.After-out invariant_loop decreases_loop → tie.After-window3 invariant_loop decreases_loop
+windows_of c = c.before.before.before.before
 
-abbrev first_of : tie.After-out2 invariant-loop decreases-loop → tie.After-out invariant-loop decreases-loop
-first_of c = c.before.before.before.before.before
+abbrev first_number : tie.After-out2 invariant_loop decreases_loop → tie.After-out invariant_loop decreases_loop
+first_number c = c.before.before.before.before.before
 
-abbrev second-of : tie.After-out3 invariant-loop decreases-loop → tie.After-out2 invariant-loop decreases-loop
-second-of c = c.before.before.before.before.before
+abbrev second_of : tie.After-out3 invariant_loop decreases_loop → tie.After-out2 invariant_loop decreases_loop
+second_of c = c.before.before.before.before.before
 
 -- the output after each
-abbrev out₁ : tie.After-out invariant-loop decreases-loop → List ℕ
+abbrev out₁ : tie.After-out invariant_loop decreases_loop → List ℕ
 out₁ c =
-    let l = (loop-of (windows-of c)).loop in
+    let l = (loop_of (windows_of c)).loop in
     put_mid (24 * l.g) (24 * l.g + 8 - 24 * l.g) l.out c.before.spell.new.1.0
 
-abbrev out₂ : tie.After-out2 invariant-loop decreases-loop → List ℕ
+abbrev out₂ : tie.After-out2 invariant_loop decreases_loop → List ℕ
 out₂ c =
-    let g = (loop-of (windows-of (first_of c))).loop.g in
-    put_mid (24 * g + 8) (24 * g + 16 - (24 * g + 8)) (out₁ (first_of c)) c.before.spell2.new.1.0
+    let g = (loop_of (windows_of (first_number c))).loop.g in
+    put_mid (24 * g + 8) (24 * g + 16 - (24 * g + 8)) (out₁ (first_number c)) c.before.spell2.new.1.0
 
-abbrev out₃ : tie.After-out3 invariant-loop decreases-loop → List ℕ
+abbrev out₃ : tie.After-out3 invariant_loop decreases_loop → List ℕ
 out₃ c =
-    let g = (loop-of (windows-of (first_of (second-of c)))).loop.g in
-    put_mid (24 * g + 16) (24 * g + 24 - (24 * g + 16)) (out₂ (second-of c)) c.before.spell3.new.1.0
+    let g = (loop_of (windows_of (first_number (second_of c)))).loop.g in
+    put_mid (24 * g + 16) (24 * g + 24 - (24 * g + 16)) (out₂ (second_of c)) c.before.spell3.new.1.0
 
-first_done : (c : tie.After-out invariant-loop decreases-loop) → (let l = loop-of (windows-of c) in let e = 24 * l.loop.g + 8 in
+first_done : (c : tie.After-out invariant_loop decreases_loop) → (let l = loop_of (windows_of c) in let e = 24 * l.loop.g + 8 in
     (length (out₁ c) ≡ 193) × (take e (out₁ c) ≡ tab e (octet l)))
 first_done c =
     let j = c.before.before.before in
-    let l = loop-of (windows-of c) in
-    let w = (windows-of c).before.before.window in
+    let l = loop_of (windows_of c) in
+    let w = (windows_of c).before.before.window in
     let a = (start l).args in
     let i = l.loop.inv in
     let g = l.loop.g in
@@ -80,13 +80,13 @@ first_done c =
           (8 * (24 * g)) l.loop.out c.before.spell.new.1.0 refl refl word c.before.spell.ensures (omega arith) i.3,
     )
 
-second-done : (c : tie.After-out2 invariant-loop decreases-loop) → (let l = loop-of (windows-of (first_of c)) in let e = 24 * l.loop.g + 16 in
+second_done : (c : tie.After-out2 invariant_loop decreases_loop) → (let l = loop_of (windows_of (first_number c)) in let e = 24 * l.loop.g + 16 in
     (length (out₂ c) ≡ 193) × (take e (out₂ c) ≡ tab e (octet l)))
-second-done c =
+second_done c =
     let j = c.before.before.before in
-    let d = first_done (first_of c) in
-    let w = windows-of (first_of c) in
-    let l = loop-of w in
+    let d = first_done (first_number c) in
+    let w = windows_of (first_number c) in
+    let l = loop_of w in
     let a = (start l).args in
     let g = l.loop.g in
     let word = j.joined2.ensures
@@ -95,17 +95,17 @@ second-done c =
     w.before.window2.ensures (omega arith) (omega arith) (omega arith) in (
       omega (arith, c.out2.given.1, d.0),
       word_more a.octets.now a.framing (24 * g + 8) (24 * g + 16) j.joined2.result
-          (8 * (24 * g + 8)) (out₁ (first_of c)) c.before.spell2.new.1.0 (omega arith) refl word c.before.spell2.ensures
+          (8 * (24 * g + 8)) (out₁ (first_number c)) c.before.spell2.new.1.0 (omega arith) refl word c.before.spell2.ensures
           (omega (arith, d.0)) d.1,
     )
 
-third-done : (c : tie.After-out3 invariant-loop decreases-loop) → (let l = loop-of (windows-of (first_of (second-of c))) in let e = 24 * l.loop.g + 24 in
+third_done : (c : tie.After-out3 invariant_loop decreases_loop) → (let l = loop_of (windows_of (first_number (second_of c))) in let e = 24 * l.loop.g + 24 in
     (length (out₃ c) ≡ 193) × (take e (out₃ c) ≡ tab e (octet l)))
-third-done c =
+third_done c =
     let j = c.before.before.before in
-    let d = second-done (second-of c) in
-    let w = windows-of (first_of (second-of c)) in
-    let l = loop-of w in
+    let d = second_done (second_of c) in
+    let w = windows_of (first_number (second_of c)) in
+    let l = loop_of w in
     let a = (start l).args in
     let g = l.loop.g in
     let word = j.joined3.ensures
@@ -114,65 +114,65 @@ third-done c =
     w.window3.ensures (omega arith) (omega arith) (omega arith) in (
       omega (arith, c.out3.given.1, d.0),
       word_more a.octets.now a.framing (24 * g + 16) (24 * g + 24) j.joined3.result
-          (8 * (24 * g + 16)) (out₂ (second-of c)) c.before.spell3.new.1.0 (omega arith) refl word c.before.spell3.ensures
+          (8 * (24 * g + 16)) (out₂ (second_of c)) c.before.spell3.new.1.0 (omega arith) refl word c.before.spell3.ensures
           (omega (arith, d.0)) d.1,
     )
 
-spell-requires : tie.Need-spell-requires invariant-loop decreases-loop
-spell-requires c κs =
-    let l = (loop-of c.before.before).loop in
+spell_requires : tie.Need-spell-requires invariant_loop decreases_loop
+spell_requires c κs =
+    let l = (loop_of c.before.before).loop in
     part_length (24 * l.g) (24 * l.g + 8) l.out (omega arith) ∙ omega arith
 
-spell-requires-2 : tie.Need-spell-requires-2 invariant-loop decreases-loop
-spell-requires-2 c κs =
+spell_requires_2 : tie.Need-spell-requires-2 invariant_loop decreases_loop
+spell_requires_2 c κs =
     let o = c.before.before.before in
-    let g = (loop-of (windows-of o)).loop.g in
+    let g = (loop_of (windows_of o)).loop.g in
     part_length (24 * g + 8) (24 * g + 16) (out₁ o) (omega (arith, (first_done o).0)) ∙ omega arith
 
-spell-requires-3 : tie.Need-spell-requires-3 invariant-loop decreases-loop
-spell-requires-3 c κs =
+spell_requires_3 : tie.Need-spell-requires-3 invariant_loop decreases_loop
+spell_requires_3 c κs =
     let o = c.before.before.before in
-    let g = (loop-of (windows-of (first_of o))).loop.g in
-    part_length (24 * g + 16) (24 * g + 24) (out₂ o) (omega (arith, (second-done o).0)) ∙ omega arith
+    let g = (loop_of (windows_of (first_number o))).loop.g in
+    part_length (24 * g + 16) (24 * g + 24) (out₂ o) (omega (arith, (second_done o).0)) ∙ omega arith
 
-loop-again : tie.Need-loop-preserved invariant-loop decreases-loop
-loop-again c =
+loop_again : tie.Need-loop-preserved invariant_loop decreases_loop
+loop_again c =
     let o = c.before in
-    let d = third-done o in
-    let w = windows-of (first_of (second-of o)) in
-    let l = loop-of w in
+    let d = third_done o in
+    let w = windows_of (first_number (second_of o)) in
+    let l = loop_of w in
     let g = l.loop.g in
     let octets = (start l).args.octets.now in
     let e : 24 * (g + 1) ≡ 24 * g + 24 = omega arith in
     let q : 8 * (24 * g + 16) + (63 - g) ≡ 191 * (g + 1) = omega arith in (
       omega arith,
       d.0,
-      ap (λ x. x % 2 ^ (g + 1)) w.window3.ensures ∙ field-last octets (8 * (24 * g + 16)) (63 - g) (g + 1) 64 (omega arith)
+      ap (λ x. x % 2 ^ (g + 1)) w.window3.ensures ∙ field_last octets (8 * (24 * g + 16)) (63 - g) (g + 1) 64 (omega arith)
           ∙ ap (λ x. field octets x (g + 1)) q,
       rw e d.1,
     )
 
-same_length : tie.Need-same-length invariant-loop decreases-loop
+same_length : tie.Need-same-length invariant_loop decreases_loop
 same_length c =
     let l = c.before.before in
     length-set l.loop.out 192 _ ∙ l.loop.invariant.1 ∙ sym (start l).requires.1
 
-returns : tie.Need-returns invariant-loop decreases-loop
+returns : tie.Need-returns invariant_loop decreases_loop
 unfolding packed
 returns c =
     let l = c.before.before in
     let a = (start l).args in
     let octets = a.octets.now in
     let e : 24 * l.loop.g ≡ 192 = omega arith in
-    let last = last-octet octets a.framing (c.shared-slice-known2.given 191).fits in
-    tab-fill (set l.loop.out 192 (get_or octets 191 0)) 193 (octet l) (omega (arith, length-set l.loop.out 192 (get_or octets 191 0)))
+    let last = last_octet octets a.framing (c.shared-slice-known2.given 191).fits in
+    tab_fill (set l.loop.out 192 (get_or octets 191 0)) 193 (octet l) (omega (arith, length-set l.loop.out 192 (get_or octets 191 0)))
     (ap (λ x. take 193 (set l.loop.out 192 x)) last ∙ fill_more l.loop.out 192 (octet l) (omega arith) (rw e at l.loop.invariant.3))
 
-pub write-eight-spec : {M : Type 1} → statement M
-write-eight-spec =
+pub write_eight_spec : {M : Type 1} → statement M
+write_eight_spec =
     tie.close
-    (tie.spec invariant-loop decreases-loop
-    loop-holds
+    (tie.spec invariant_loop decreases_loop
+    loop_holds
     (omega arith)
     (λ c κs. omega arith)
     (omega arith)
@@ -186,24 +186,24 @@ write-eight-spec =
     (omega arith)
     (omega arith)
     (omega arith)
-    spell-requires
+    spell_requires
     (λ c κs. omega arith)
     (omega arith)
     (omega arith)
     (omega arith)
     (omega arith)
     (omega arith)
-    spell-requires-2
+    spell_requires_2
     (λ c κs. omega arith)
     (omega arith)
     (omega arith)
     (omega arith)
     (omega arith)
     (omega arith)
-    spell-requires-3
+    spell_requires_3
     (omega arith)
     (omega arith)
-    loop-again
+    loop_again
     (omega arith)
     (omega arith)
     same_length

@@ -4,97 +4,97 @@ use Prim.Native.Nat.{◌+◌, ◌-◌, ◌*◌, ◌≤◌}
 use mathlib.Core.Path.{◌≡◌, refl, sym, ap, ◌∙◌}
 use native.Mathlib.Omega.{arith}
 use lib.ListN.{length, take, drop}
-use Rattle.base.specs.Tab.{tabFrom}
+use Rattle.base.specs.Tab.{tab_from}
 use Rattle.base.proofs.PartLaws.{part_length}
 use Rattle.line.specs.Spelt.{packed}
-use Rattle.t1write.specs.Writing.{carries, written, withSignals}
-use Rattle.t1write.proofs.Signals.{length-signals}
-use Rattle.t1write.proofs.Parts.{part-bits, payloadPart, linkPart, signalsPart, signals-later, all_more, all_done}
+use Rattle.t1write.specs.Writing.{carries, written, with_signals}
+use Rattle.t1write.proofs.Signals.{length_signals}
+use Rattle.t1write.proofs.Parts.{part_bits, payload_part, link_part, signals_part, signals_later, all_more, all_done}
 use Rattle.t1write.proofs.write_replaced.Statement.{statement}
 use Rattle.t1write.proofs.write_replaced.Tie as tie
 
-abbrev invariant-loop : tie.invariant-loop
-invariant-loop payload link check signalling n out₀ k₀ m₀ out k m =
-    let sent = withSignals payload signalling in
+abbrev invariant_loop : tie.invariant_loop
+invariant_loop payload link check signalling n out₀ k₀ m₀ out k m =
+    let sent = with_signals payload signalling in
     (m ≤ n) × (length out ≡ length out₀) × (k ≡ carries sent check m) × (take (579 * m) out ≡ written sent link check m)
     × (drop (579 * m) out ≡ drop (579 * m) out₀)
 
-abbrev decreases-loop : tie.decreases-loop
-decreases-loop payload link check signalling n out₀ k₀ m₀ out k m = n - m
+abbrev decreases_loop : tie.decreases_loop
+decreases_loop payload link check signalling n out₀ k₀ m₀ out k m = n - m
 
-loop-holds : tie.Need-loop-init invariant-loop decreases-loop
-unfolding written carries packed tabFrom
-loop-holds c = (omega arith, refl, refl, refl, refl)
+loop_holds : tie.Need-loop-init invariant_loop decreases_loop
+unfolding written carries packed tab_from
+loop_holds c = (omega arith, refl, refl, refl, refl)
 
-abbrev start : tie.At-loop invariant-loop decreases-loop → tie.Start invariant-loop decreases-loop
+abbrev start : tie.At-loop invariant_loop decreases_loop → tie.Start invariant_loop decreases_loop
 start l = l.before.before.before.before.before
 
-replaced-requires : tie.Need-replaced-requires invariant-loop decreases-loop
-replaced-requires c κs =
+replaced_requires : tie.Need-replaced-requires invariant_loop decreases_loop
+replaced_requires c κs =
     let l = c.before.before.before in
     let s = start l in
     let a = s.args in
     let m = l.loop.m in (
       part_length (576 * m) (576 * m + 576) a.payload.now (omega arith) ∙ omega arith,
-      part-bits a.signalling.now (96 * m) (96 * m + 96) (96 * a.n) 96 s.pre.1 (omega arith) (omega arith) (omega arith),
+      part_bits a.signalling.now (96 * m) (96 * m + 96) (96 * a.n) 96 s.pre.1 (omega arith) (omega arith) (omega arith),
     )
 
-abbrev loop-of : tie.After-replaced invariant-loop decreases-loop → tie.At-loop invariant-loop decreases-loop
-loop-of c = c.before.before.before.before
+abbrev loop_of : tie.After-replaced invariant_loop decreases_loop → tie.At-loop invariant_loop decreases_loop
+loop_of c = c.before.before.before.before
 
-replaced-long : (c : tie.After-replaced invariant-loop decreases-loop) → length c.replaced.result ≡ 576
-replaced-long c =
-    let l = loop-of c in
+replaced_long : (c : tie.After-replaced invariant_loop decreases_loop) → length c.replaced.result ≡ 576
+replaced_long c =
+    let l = loop_of c in
     let a = (start l).args in
     let m = l.loop.m in
-    ap length c.replaced.ensures ∙ length-signals (payloadPart m a.payload.now) (signalsPart m a.signalling.now)
+    ap length c.replaced.ensures ∙ length_signals (payload_part m a.payload.now) (signals_part m a.signalling.now)
     ∙ part_length (576 * m) (576 * m + 576) a.payload.now (omega arith) ∙ omega arith
 
-slice-aggregate-write-superframe : tie.Need-slice-aggregate-write-superframe invariant-loop decreases-loop
-slice-aggregate-write-superframe c = sym (replaced-long c.before)
+slice_aggregate_write_superframe : tie.Need-slice-aggregate-write-superframe invariant_loop decreases_loop
+slice_aggregate_write_superframe c = sym (replaced_long c.before)
 
-write-superframe-requires : tie.Need-write-superframe-requires invariant-loop decreases-loop
-write-superframe-requires c κs =
+write_superframe_requires : tie.Need-write-superframe-requires invariant_loop decreases_loop
+write_superframe_requires c κs =
     let r = c.before.before.before in
-    let l = loop-of r in
+    let l = loop_of r in
     let s = start l in
     let a = s.args in
     let m = l.loop.m in (
-      replaced-long r,
-      part-bits a.link.now (12 * m) (12 * m + 12) (12 * a.n) 12 s.pre.0.link (omega arith) (omega arith) (omega arith),
+      replaced_long r,
+      part_bits a.link.now (12 * m) (12 * m + 12) (12 * a.n) 12 s.pre.0.link (omega arith) (omega arith) (omega arith),
       part_length (579 * m) (579 * m + 579) l.loop.out (omega arith) ∙ omega arith,
     )
 
-loop-again : tie.Need-loop-preserved invariant-loop decreases-loop
-loop-again c =
+loop_again : tie.Need-loop-preserved invariant_loop decreases_loop
+loop_again c =
     let w = c.before.before in
     let r = w.before.before.before.before in
-    let l = loop-of r in
+    let l = loop_of r in
     let a = (start l).args in
     let m = l.loop.m in
     let p = a.payload.now in
     let g = a.signalling.now in
     let i = l.loop.inv in
     let o = r.replaced.ensures in
-    let e = all_more (signals-later p g m a.link.now (omega arith)) a.check l.loop.k w.write-superframe.result
+    let e = all_more (signals_later p g m a.link.now (omega arith)) a.check l.loop.k w.write-superframe.result
     l.loop.out w.write-superframe.new.1.1.1.0 a.out.now (omega arith) i.2
-    (w.write-superframe.ensures.0 ∙ ap (λ x. written x (linkPart m a.link.now) l.loop.k 1) o)
+    (w.write-superframe.ensures.0 ∙ ap (λ x. written x (link_part m a.link.now) l.loop.k 1) o)
     (w.write-superframe.ensures.1 ∙ ap (λ x. carries x l.loop.k 1) o) i.3 i.4 in
     (omega arith, omega (arith, c.before.out.given.1), e.2, e.0, e.1)
 
-returns : tie.Need-returns invariant-loop decreases-loop
+returns : tie.Need-returns invariant_loop decreases_loop
 returns c =
     let l = c.before in
     let a = (start l).args in
     let i = l.loop.invariant in
-    all_done (withSignals a.payload.now a.signalling.now) a.link.now a.check l.loop.m a.n l.loop.k l.loop.out
+    all_done (with_signals a.payload.now a.signalling.now) a.link.now a.check l.loop.m a.n l.loop.k l.loop.out
     a.out.now (omega arith) i.2 i.3 i.4
 
-pub write-replaced-spec : {M : Type 1} → statement M
-write-replaced-spec =
+pub write_replaced_spec : {M : Type 1} → statement M
+write_replaced_spec =
     tie.close
-    (tie.spec invariant-loop decreases-loop
-    loop-holds (omega arith) (omega arith) (omega arith) (omega arith) (omega arith) (omega arith) (omega arith)
-    (omega arith) (omega arith) (omega arith) (omega arith) (omega arith) replaced-requires
-    slice-aggregate-write-superframe (omega arith) (omega arith) (omega arith) (omega arith) (omega arith) (omega arith)
-    (omega arith) (omega arith) write-superframe-requires (omega arith) (omega arith) loop-again (omega arith) returns)
+    (tie.spec invariant_loop decreases_loop
+    loop_holds (omega arith) (omega arith) (omega arith) (omega arith) (omega arith) (omega arith) (omega arith)
+    (omega arith) (omega arith) (omega arith) (omega arith) (omega arith) replaced_requires
+    slice_aggregate_write_superframe (omega arith) (omega arith) (omega arith) (omega arith) (omega arith) (omega arith)
+    (omega arith) (omega arith) write_superframe_requires (omega arith) (omega arith) loop_again (omega arith) returns)

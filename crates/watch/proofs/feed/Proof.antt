@@ -5,27 +5,27 @@ use lib.ListN.{length-take}
 use Rattle.watch.proofs.feed.Statement.{statement}
 use Rattle.watch.proofs.feed.Tie as tie
 
-slice-aggregate-hand-on : tie.Need-slice-aggregate-hand-on
-slice-aggregate-hand-on c = simp length-take (omega arith)
+slice_aggregate_hand_on : tie.Need-slice-aggregate-hand-on
+slice_aggregate_hand_on c = simp length-take (omega arith)
 
-hand-on-requires : tie.Need-hand-on-requires
-hand-on-requires c κs = (
+hand_on_requires : tie.Need-hand-on-requires
+hand_on_requires c κs = (
   c.before.before.before.before.before.before.before.before.before.before.before.before.before.before.requires.0,
   simp length-take (omega arith),
 )
 
-returns-2 : tie.Need-returns-2
-returns-2 c =
+returns_2 : tie.Need-returns-2
+returns_2 c =
     let p = c.before.before.before.before.before.before.before.before.before.before.before.before.before.before.before.requires in
     record { came = omega (arith, c.hand_on.ensures.0, p.2); heard = c.hand_on.ensures.1 }
 
-pub feed-spec : {M : Type 1} → statement M
-feed-spec =
+pub feed_spec : {M : Type 1} → statement M
+feed_spec =
     tie.close
     (tie.spec
     (search rules) (search rules) (search rules) (search rules) (search rules) (search rules)
     (λ c. c.stopped.ensures)
     (search rules) (search rules) (search rules) (search rules)
-    slice-aggregate-hand-on
-    hand-on-requires
-    returns-2)
+    slice_aggregate_hand_on
+    hand_on_requires
+    returns_2)

@@ -4,7 +4,7 @@ use mathlib.Core.Logic.{⊎_elim}
 use native.Mathlib.Omega.{arith}
 use borrow.Author.Rules.{rules}
 use Rattle.watch.specs.Watch.{Adds}
-use Rattle.watch.proofs.Counts.{adds_none, adds-within}
+use Rattle.watch.proofs.Counts.{adds_none, adds_within}
 use Rattle.watch.proofs.hand_on.Statement.{statement}
 use Rattle.watch.proofs.hand_on.Tie as tie
 
@@ -15,7 +15,7 @@ returns c =
       refl,
       ⊎_elim
           (λ w. subst (λ x. Adds 192 h x.now) (sym w.4) w.1.ensures)
-          (λ w. subst (λ x. Adds 192 h x.now) (sym w.1) (adds-within h h 0 192 (omega arith) (adds_none h)))
+          (λ w. subst (λ x. Adds 192 h x.now) (sym w.1) (adds_within h h 0 192 (omega arith) (adds_none h)))
           i.if1.branch,
     )
 

@@ -4,14 +4,14 @@ use borrow.Author.Rules.{rules}
 use borrow.Author.Tests.{lt-ltb, le-ltb}
 use Prim.Native.Nat.{◌/◌, ◌%◌}
 use native.Mathlib.Omega.{arith}
-use Rattle.line.proofs.SignalLaws.{signal-lt}
+use Rattle.line.proofs.SignalLaws.{signal_lt}
 use Rattle.write.proofs.bit_1.Statement.{statement}
 use Rattle.write.proofs.bit_1.Tie as tie
 
-pub bit-1-spec : {M : Type 1} → statement M
-bit-1-spec =
+pub bit_1_spec : {M : Type 1} → statement M
+bit_1_spec =
     tie.close
     (tie.spec
     (search rules)
-    (λ c. (simp (lt-ltb _ _ c.if1.true) refl, signal-lt (c.before.args.f / 2 % 8) (omega arith)))
+    (λ c. (simp (lt-ltb _ _ c.if1.true) refl, signal_lt (c.before.args.f / 2 % 8) (omega arith)))
     (λ c. (simp (le-ltb _ _ c.if1.false) refl, omega arith)))

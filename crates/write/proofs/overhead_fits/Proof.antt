@@ -8,54 +8,54 @@ use borrow.Author.Tests.{eq-eqb, ne_eqb, lt-ltb, le-ltb}
 use lib.Dec.{ltb}
 use lib.ListN.{length, get_or}
 use Rattle.base.specs.Tab.{all}
-use Rattle.base.proofs.TabLaws.{all_more, all-fails}
-use Rattle.write.specs.Entry.{overheadLimit, overheadFits}
+use Rattle.base.proofs.TabLaws.{all_more, all_fails}
+use Rattle.write.specs.Entry.{overhead_limit, overhead_fits}
 use Rattle.write.proofs.overhead_fits.Statement.{statement}
 use Rattle.write.proofs.overhead_fits.Tie as tie
 
-abbrev invariant-loop : tie.invariant-loop
-invariant-loop overhead n h₀ h-end h =
+abbrev invariant_loop : tie.invariant_loop
+invariant_loop overhead n h₀ h-end h =
     (h ≤ 8 * n) × (h-end ≡ 8 * n) × (length overhead ≡ 8 * n) ×
-    (all h (λ i. ltb (get_or overhead i 0) (overheadLimit i)) ≡ true)
+    (all h (λ i. ltb (get_or overhead i 0) (overhead_limit i)) ≡ true)
 
-abbrev decreases-loop : tie.decreases-loop
-decreases-loop overhead n h₀ h-end h = 8 * n - h
+abbrev decreases_loop : tie.decreases_loop
+decreases_loop overhead n h₀ h-end h = 8 * n - h
 
-loop-holds : tie.Need-loop-init invariant-loop decreases-loop
+loop_holds : tie.Need-loop-init invariant_loop decreases_loop
 unfolding all
-loop-holds c = (omega arith, omega arith, omega arith, refl)
+loop_holds c = (omega arith, omega arith, omega arith, refl)
 
-returns-2 : tie.Need-returns-2 invariant-loop decreases-loop
-unfolding overheadFits
-returns-2 c =
+returns_2 : tie.Need-returns-2 invariant_loop decreases_loop
+unfolding overhead_fits
+returns_2 c =
     let l = c.before.before.before.before in
     let o = l.before.before.before.args.overhead.now in
     let i = l.loop.invariant in
     let t = le-ltb _ _ (rw c.before.before.overhead-limit.ensures at c.if2.true) in
-    sym (ap₂ ◌&&◌ (eq-eqb _ _ i.2) (all-fails (length o) (λ i. ltb (get_or o i 0) (overheadLimit i)) l.loop.h (omega arith) t))
+    sym (ap₂ ◌&&◌ (eq-eqb _ _ i.2) (all_fails (length o) (λ i. ltb (get_or o i 0) (overhead_limit i)) l.loop.h (omega arith) t))
 
-loop-again : tie.Need-loop-preserved invariant-loop decreases-loop
-loop-again c =
+loop_again : tie.Need-loop-preserved invariant_loop decreases_loop
+loop_again c =
     let l = c.before.before.before.before in
     let o = l.before.before.before.args.overhead.now in
     let i = l.loop.invariant in
     let t = lt-ltb _ _ (rw c.before.before.overhead-limit.ensures at c.if2.false) in
-    (omega arith, i.1, i.2, all_more l.loop.h (λ i. ltb (get_or o i 0) (overheadLimit i)) i.3 t)
+    (omega arith, i.1, i.2, all_more l.loop.h (λ i. ltb (get_or o i 0) (overhead_limit i)) i.3 t)
 
-returns-3 : tie.Need-returns-3 invariant-loop decreases-loop
-unfolding overheadFits
-returns-3 c =
+returns_3 : tie.Need-returns-3 invariant_loop decreases_loop
+unfolding overhead_fits
+returns_3 c =
     let l = c.before in
     let o = l.before.before.before.args.overhead.now in
     let i = l.loop.invariant in
     let e : length o ≡ l.loop.h = omega arith in
-    sym (ap₂ ◌&&◌ (eq-eqb _ _ i.2) (ap (λ n. all n (λ i. ltb (get_or o i 0) (overheadLimit i))) e ∙ i.3))
+    sym (ap₂ ◌&&◌ (eq-eqb _ _ i.2) (ap (λ n. all n (λ i. ltb (get_or o i 0) (overhead_limit i))) e ∙ i.3))
 
-pub overhead-fits-spec : {M : Type 1} → statement M
-unfolding overheadFits
-overhead-fits-spec =
+pub overhead_fits_spec : {M : Type 1} → statement M
+unfolding overhead_fits
+overhead_fits_spec =
     tie.close
-    (tie.spec invariant-loop decreases-loop
+    (tie.spec invariant_loop decreases_loop
     (omega arith)
     (λ c. simp (ne_eqb _ _ c.if1.true))
-    (omega arith) loop-holds (search rules) (omega arith) returns-2 (omega arith) (omega arith) loop-again returns-3)
+    (omega arith) loop_holds (search rules) (omega arith) returns_2 (omega arith) (omega arith) loop_again returns_3)

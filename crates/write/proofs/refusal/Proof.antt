@@ -3,7 +3,7 @@ use mathlib.Core.Path.{sym, ◌∙◌}
 use mathlib.Core.Bool.{true, false}
 use borrow.Author.Rules.{rules}
 use borrow.Author.Tests.{lt-ltb, le-ltb}
-use Rattle.write.proofs.Calls.{fault-first, no-fault}
+use Rattle.write.proofs.Calls.{fault_first, no_fault}
 use Rattle.write.proofs.refusal.Statement.{statement}
 use Rattle.write.proofs.refusal.Tie as tie
 
@@ -11,21 +11,21 @@ returns : tie.Need-returns
 returns c =
     let f = c.before in
     let a = f.before.before.before.args in
-    fault-first a.payload.now a.overhead.now a.check a.m f.fault.result f.fault.ensures c.if1.true
+    fault_first a.payload.now a.overhead.now a.check a.m f.fault.result f.fault.ensures c.if1.true
 
-returns-2 : tie.Need-returns-2
-returns-2 c =
+returns_2 : tie.Need-returns-2
+returns_2 c =
     let e = c.before in
     let a = e.before.before.before.before.args in
-    no-fault a.payload.now a.overhead.now a.check a.m (sym e.before.fault.ensures ∙ e.if1.false) true
+    no_fault a.payload.now a.overhead.now a.check a.m (sym e.before.fault.ensures ∙ e.if1.false) true
     (lt-ltb _ _ c.if2.true)
 
-returns-3 : tie.Need-returns-3
-returns-3 c =
+returns_3 : tie.Need-returns-3
+returns_3 c =
     let e = c.before in
     let a = e.before.before.before.before.args in
-    no-fault a.payload.now a.overhead.now a.check a.m (sym e.before.fault.ensures ∙ e.if1.false) false
+    no_fault a.payload.now a.overhead.now a.check a.m (sym e.before.fault.ensures ∙ e.if1.false) false
     (le-ltb _ _ c.if2.false)
 
-pub refusal-spec : {M : Type 1} → statement M
-refusal-spec = tie.close (tie.spec (search rules) returns (search rules) returns-2 returns-3)
+pub refusal_spec : {M : Type 1} → statement M
+refusal_spec = tie.close (tie.spec (search rules) returns (search rules) returns_2 returns_3)

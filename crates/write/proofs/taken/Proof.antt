@@ -7,14 +7,14 @@ use Rattle.base.proofs.PartLaws.{copy_more, copy_done}
 use Rattle.write.proofs.taken.Statement.{statement}
 use Rattle.write.proofs.taken.Tie as tie
 
-abbrev invariant-loop : tie.invariant-loop
-invariant-loop payload octets₀ j₀ octets j = (j ≤ 31) × (length octets ≡ 31) × (take j octets ≡ take j payload)
+abbrev invariant_loop : tie.invariant_loop
+invariant_loop payload octets₀ j₀ octets j = (j ≤ 31) × (length octets ≡ 31) × (take j octets ≡ take j payload)
 
-abbrev decreases-loop : tie.decreases-loop
-decreases-loop payload octets₀ j₀ octets j = 31 - j
+abbrev decreases_loop : tie.decreases_loop
+decreases_loop payload octets₀ j₀ octets j = 31 - j
 
-loop-again : tie.Need-loop-preserved invariant-loop decreases-loop
-loop-again c =
+loop_again : tie.Need-loop-preserved invariant_loop decreases_loop
+loop_again c =
     let l = c.before.before.loop in
     let payload = c.before.before.before.args.payload.now in (
       omega arith,
@@ -22,20 +22,20 @@ loop-again c =
       copy_more l.octets payload l.j (omega arith) (omega arith) l.invariant.2,
     )
 
-returns : tie.Need-returns invariant-loop decreases-loop
+returns : tie.Need-returns invariant_loop decreases_loop
 returns c =
     let l = c.before.loop in
     let payload = c.before.before.args.payload.now in
     copy_done l.octets payload l.j (omega arith) (omega arith) l.invariant.2
 
-pub taken-spec : {M : Type 1} → statement M
-taken-spec =
+pub taken_spec : {M : Type 1} → statement M
+taken_spec =
     tie.close
-    (tie.spec invariant-loop decreases-loop
+    (tie.spec invariant_loop decreases_loop
     (λ c. (omega arith, refl, refl))
     (omega arith)
     (omega arith)
     (omega arith)
     (omega arith)
-    loop-again
+    loop_again
     returns)

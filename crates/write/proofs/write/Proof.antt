@@ -3,7 +3,7 @@ use borrow.Author.Rules.{rules}
 use mathlib.Core.Path.{sym, ◌∙◌}
 use native.Mathlib.Omega.{arith}
 use lib.ListN.{length}
-use Rattle.write.proofs.Calls.{accepted-call}
+use Rattle.write.proofs.Calls.{accepted_call}
 use Rattle.write.proofs.Parts.{refused, taken}
 use Rattle.write.proofs.write.Statement.{statement}
 use Rattle.write.proofs.write.Tie as tie
@@ -14,21 +14,21 @@ returns c =
     let a = c.before.before.before.before.before.args in
     refused a.payload.now a.overhead.now a.check a.out.now r.result r.ensures c.if1.true
 
-cast-write-all : tie.Need-overflow-cast-write-all
-cast-write-all c =
+cast_write_all : tie.Need-overflow-cast-write-all
+cast_write_all c =
     let a = c.before.before.before.before.before.args in
     let z = sym c.before.refusal.ensures ∙ c.if1.false in
-    omega (arith, (accepted-call a.payload.now a.overhead.now a.check (length a.out.now) z).inputs.four-bits)
+    omega (arith, (accepted_call a.payload.now a.overhead.now a.check (length a.out.now) z).inputs.four_bits)
 
-write-all-requires : tie.Need-write-all-requires
-write-all-requires c κs =
+write_all_requires : tie.Need-write-all-requires
+write_all_requires c κs =
     let a = c.before.before.before.before.before.before.args in
     let z = sym c.before.before.refusal.ensures ∙ c.before.if1.false in
-    let k = accepted-call a.payload.now a.overhead.now a.check (length a.out.now) z in
+    let k = accepted_call a.payload.now a.overhead.now a.check (length a.out.now) z in
     (k.inputs, k.room)
 
-returns-2 : tie.Need-returns-2
-returns-2 c =
+returns_2 : tie.Need-returns-2
+returns_2 c =
     let w = c.before.before.write-all in
     let e = c.before.before.before.before in
     let r = e.before.refusal in
@@ -38,4 +38,4 @@ returns-2 c =
 
 pub write_spec : {M : Type 1} → statement M
 write_spec =
-    tie.close (tie.spec (search rules) returns cast-write-all write-all-requires (search rules) (search rules) returns-2)
+    tie.close (tie.spec (search rules) returns cast_write_all write_all_requires (search rules) (search rules) returns_2)

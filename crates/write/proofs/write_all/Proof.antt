@@ -6,37 +6,37 @@ use native.Mathlib.Omega.{arith}
 use lib.ListN.{length, take, drop}
 use Rattle.base.proofs.PartLaws.{part_length}
 use Rattle.write.specs.Writing.{carries, written}
-use Rattle.write.proofs.Laws.{carries-lt}
-use Rattle.write.proofs.Parts.{part-inputs, all_more, all_done}
+use Rattle.write.proofs.Laws.{carries_lt}
+use Rattle.write.proofs.Parts.{part_inputs, all_more, all_done}
 use Rattle.write.proofs.write_all.Statement.{statement}
 use Rattle.write.proofs.write_all.Tie as tie
 
-abbrev invariant-loop : tie.invariant-loop
-invariant-loop payload overhead k n out₀ table c₀ m₀ out c m =
+abbrev invariant_loop : tie.invariant_loop
+invariant_loop payload overhead k n out₀ table c₀ m₀ out c m =
     (m ≤ n) × (length out ≡ length out₀) × (c ≡ carries payload overhead k (2 * m)) ×
     (take (512 * m) out ≡ written payload overhead k (2 * m))
     × (drop (512 * m) out ≡ drop (512 * m) out₀)
 
-abbrev decreases-loop : tie.decreases-loop
-decreases-loop payload overhead k n out₀ table c₀ m₀ out c m = n - m
+abbrev decreases_loop : tie.decreases_loop
+decreases_loop payload overhead k n out₀ table c₀ m₀ out c m = n - m
 
-loop-holds : tie.Need-loop-init invariant-loop decreases-loop
+loop_holds : tie.Need-loop-init invariant_loop decreases_loop
 unfolding written carries
-loop-holds c = (omega arith, refl, refl, refl, refl)
+loop_holds c = (omega arith, refl, refl, refl, refl)
 
-write-multiframe-requires : tie.Need-write-multiframe-requires invariant-loop decreases-loop
-write-multiframe-requires c κs =
+write_multiframe_requires : tie.Need-write-multiframe-requires invariant_loop decreases_loop
+write_multiframe_requires c κs =
     let l = c.before.before.before.before.before in
     let s = l.before.before.before.before.before in
     let a = s.args in
     let m = l.loop.m in
-    let lt : l.loop.c < 16 = rw l.loop.invariant.2 (carries-lt a.payload.now a.overhead.now a.k (2 * m) s.requires.0.four-bits) in
+    let lt : l.loop.c < 16 = rw l.loop.invariant.2 (carries_lt a.payload.now a.overhead.now a.k (2 * m) s.requires.0.four_bits) in
     let part : length (take (512 * m + 512 - 512 * m) (drop (512 * m) l.loop.out)) ≡ 512
     = part_length (512 * m) (512 * m + 512) l.loop.out (omega arith) ∙ omega arith in
-    (part-inputs a.payload.now a.overhead.now a.k a.n m l.loop.c s.requires.0 (omega arith) lt, part, l.before.remainders.ensures)
+    (part_inputs a.payload.now a.overhead.now a.k a.n m l.loop.c s.requires.0 (omega arith) lt, part, l.before.remainders.ensures)
 
-loop-again : tie.Need-loop-preserved invariant-loop decreases-loop
-loop-again c =
+loop_again : tie.Need-loop-preserved invariant_loop decreases_loop
+loop_again c =
     let w = c.before.before in
     let l = w.before.before.before.before.before.before in
     let a = l.before.before.before.before.before.args in
@@ -47,7 +47,7 @@ loop-again c =
     i.3 i.4 in
     (omega arith, omega (arith, c.before.out.given.1), e.2, e.0, e.1)
 
-returns : tie.Need-returns invariant-loop decreases-loop
+returns : tie.Need-returns invariant_loop decreases_loop
 returns c =
     let l = c.before in
     let a = l.before.before.before.before.before.args in
@@ -55,14 +55,14 @@ returns c =
     all_done a.payload.now a.overhead.now a.k l.loop.m a.n l.loop.c l.loop.out a.out.now
     (omega arith) i.2 i.3 i.4
 
-pub write-all-spec : {M : Type 1} → statement M
-write-all-spec =
+pub write_all_spec : {M : Type 1} → statement M
+write_all_spec =
     tie.close
-    (tie.spec invariant-loop decreases-loop
+    (tie.spec invariant_loop decreases_loop
     (λ c κs. tt)
-    loop-holds
+    loop_holds
     (omega arith) (omega arith) (omega arith)
     (omega arith) (omega arith) (omega arith) (omega arith)
     (omega arith) (omega arith) (omega arith) (omega arith)
     (omega arith) (omega arith) (omega arith) (omega arith)
-    write-multiframe-requires (omega arith) (omega arith) loop-again (omega arith) returns)
+    write_multiframe_requires (omega arith) (omega arith) loop_again (omega arith) returns)

@@ -4,30 +4,30 @@ use mathlib.Core.Path.{◌≡◌, refl, sym, ap, ◌∙◌}
 use native.Mathlib.Omega.{arith}
 use borrow.Author.Rules.{rules}
 use lib.ListN.{length, take}
-use Rattle.base.specs.Tab.{tab, tabFrom}
+use Rattle.base.specs.Tab.{tab, tab_from}
 use Rattle.e1.specs.Block.{carried}
-use Rattle.write.proofs.Laws.{overhead-lt, block-carries}
-use Rattle.write.proofs.Parts.{blockOctet, block_more, block-done}
+use Rattle.write.proofs.Laws.{overhead_lt, block_carries}
+use Rattle.write.proofs.Parts.{block_octet, block_more, block_done}
 use Rattle.write.proofs.write_block.Statement.{statement}
 use Rattle.write.proofs.write_block.Tie as tie
 
-abbrev invariant-loop : tie.invariant-loop
-invariant-loop payload overhead k b out₀ table i₀ out i =
-    (i ≤ 8) × (length out ≡ 256) × (take (32 * i) out ≡ tab (32 * i) (blockOctet payload overhead k b))
+abbrev invariant_loop : tie.invariant_loop
+invariant_loop payload overhead k b out₀ table i₀ out i =
+    (i ≤ 8) × (length out ≡ 256) × (take (32 * i) out ≡ tab (32 * i) (block_octet payload overhead k b))
 
-abbrev decreases-loop : tie.decreases-loop
-decreases-loop payload overhead k b out₀ table i₀ out i = 8 - i
+abbrev decreases_loop : tie.decreases_loop
+decreases_loop payload overhead k b out₀ table i₀ out i = 8 - i
 
-loop-holds : tie.Need-loop-init invariant-loop decreases-loop
-unfolding tabFrom
-loop-holds c = (omega arith, omega arith, refl)
+loop_holds : tie.Need-loop-init invariant_loop decreases_loop
+unfolding tab_from
+loop_holds c = (omega arith, omega arith, refl)
 
-slot-0-requires : tie.Need-slot-0-requires invariant-loop decreases-loop
-slot-0-requires c κs =
-    let s = c.before.before.before.before.before.before in overhead-lt s.requires.0 ((8 * s.args.b + c.before.before.loop.i) / 2)
+slot_0_requires : tie.Need-slot-0-requires invariant_loop decreases_loop
+slot_0_requires c κs =
+    let s = c.before.before.before.before.before.before in overhead_lt s.requires.0 ((8 * s.args.b + c.before.before.loop.i) / 2)
 
-loop-again : tie.Need-loop-preserved invariant-loop decreases-loop
-loop-again c =
+loop_again : tie.Need-loop-preserved invariant_loop decreases_loop
+loop_again c =
     let w = c.before.before in
     let s = w.before.before.before in
     let l = s.before.before.before in
@@ -40,30 +40,30 @@ loop-again c =
     )
 
 -- the block that is written carries k
-block-check-requires : tie.Need-block-check-requires invariant-loop decreases-loop
-block-check-requires c κs =
+block_check_requires : tie.Need-block-check-requires invariant_loop decreases_loop
+block_check_requires c κs =
     let l = c.before.before in
     let s = l.before.before.before.before in
     let a = s.args in
-    let e = block-done a.payload.now a.overhead.now a.k a.b l.loop.i l.loop.out (omega arith)
+    let e = block_done a.payload.now a.overhead.now a.k a.b l.loop.i l.loop.out (omega arith)
     l.loop.invariant.1 l.loop.invariant.2 in
-    let k = block-carries a.payload.now a.overhead.now a.k a.b s.requires.0.four-bits in
+    let k = block_carries a.payload.now a.overhead.now a.k a.b s.requires.0.four_bits in
     (search rules, sym (ap (λ out. carried out 0) e ∙ k), s.requires.3)
 
-returns : tie.Need-returns invariant-loop decreases-loop
+returns : tie.Need-returns invariant_loop decreases_loop
 returns c =
     let l = c.before.before.before in
     let a = l.before.before.before.before.args in (
-      block-done a.payload.now a.overhead.now a.k a.b l.loop.i l.loop.out (omega arith) l.loop.invariant.1 l.loop.invariant.2,
+      block_done a.payload.now a.overhead.now a.k a.b l.loop.i l.loop.out (omega arith) l.loop.invariant.1 l.loop.invariant.2,
       c.block-check.ensures,
     )
 
-pub write-block-spec : {M : Type 1} → statement M
-write-block-spec =
+pub write_block_spec : {M : Type 1} → statement M
+write_block_spec =
     tie.close
-    (tie.spec invariant-loop decreases-loop
-    loop-holds (omega arith) (omega arith) (omega arith) slot-0-requires (omega arith) (omega arith)
+    (tie.spec invariant_loop decreases_loop
+    loop_holds (omega arith) (omega arith) (omega arith) slot_0_requires (omega arith) (omega arith)
     (omega arith) (omega arith) (omega arith) (omega arith)
     (omega arith) (omega arith) (omega arith) (omega arith)
-    (λ c κs. (search rules, search rules)) (omega arith) (omega arith) loop-again
-    block-check-requires (omega arith) returns)
+    (λ c κs. (search rules, search rules)) (omega arith) (omega arith) loop_again
+    block_check_requires (omega arith) returns)

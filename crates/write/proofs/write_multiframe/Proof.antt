@@ -1,23 +1,23 @@
 -- `write_multiframe` meets its contract: its two blocks fill it, and the second carries the check of the first.
 use borrow.Author.Rules.{rules}
 use native.Mathlib.Omega.{arith}
-use Rattle.write.proofs.Parts.{multiframe-done}
+use Rattle.write.proofs.Parts.{multiframe_done}
 use Rattle.write.proofs.write_multiframe.Statement.{statement}
 use Rattle.write.proofs.write_multiframe.Tie as tie
 
-write-block-requires : tie.Need-write-block-requires
-write-block-requires c κs = let s = c.before.before.before.before in (s.requires.0, omega arith, search rules, s.requires.2)
+write_block_requires : tie.Need-write-block-requires
+write_block_requires c κs = let s = c.before.before.before.before in (s.requires.0, omega arith, search rules, s.requires.2)
 
-write-block-requires-2 : tie.Need-write-block-requires-2
-write-block-requires-2 c κs =
+write_block_requires_2 : tie.Need-write-block-requires-2
+write_block_requires_2 c κs =
     let w = c.before.before.before in
     let p = w.before.before.before.before.before.requires in
     let g = p.0 in (
       record {
-        payload-length = g.payload-length;
-        overhead-length = g.overhead-length;
+        payload_length = g.payload_length;
+        overhead_length = g.overhead_length;
         limited = g.limited;
-        four-bits = omega arith;
+        four_bits = omega arith;
       },
       omega arith,
       search rules,
@@ -30,15 +30,15 @@ returns c =
     let w₁ = w₂.before.before.before.before in
     let s = w₁.before.before.before.before.before in
     let a = s.args in
-    multiframe-done a.payload.now a.overhead.now a.k a.out.now
+    multiframe_done a.payload.now a.overhead.now a.k a.out.now
     w₁.write-block.new.1.1.1.1.0 w₂.write-block2.new.1.1.1.1.0 w₁.write-block.result
     w₂.write-block2.result
     s.requires.1 w₁.write-block.ensures.0 w₁.write-block.ensures.1.0 w₂.write-block2.ensures.0
     w₂.write-block2.ensures.1.0
 
-pub write-multiframe-spec : {M : Type 1} → statement M
-write-multiframe-spec =
+pub write_multiframe_spec : {M : Type 1} → statement M
+write_multiframe_spec =
     tie.close
     (tie.spec
-    (search rules) (search rules) (search rules) write-block-requires
-    (search rules) (search rules) (search rules) write-block-requires-2 (search rules) returns)
+    (search rules) (search rules) (search rules) write_block_requires
+    (search rules) (search rules) (search rules) write_block_requires_2 (search rules) returns)

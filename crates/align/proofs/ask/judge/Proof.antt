@@ -12,18 +12,18 @@ returns : tie.Need-returns
 unfolding judged
 returns c =
     let w = c.before.before in
-    rw (ap not (sym w.is_IsWord.ensures) ∙ c.before.if1.true) (ap FirstWord c.first-wrong.ensures)
+    rw (ap not (sym w.is_IsWord.ensures) ∙ c.before.if1.true) (ap FirstWord c.first_wrong_lem.ensures)
 
-returns-2 : tie.Need-returns-2
+returns_2 : tie.Need-returns-2
 unfolding judged
-returns-2 c =
+returns_2 c =
     let b = c.before in
     let w = b.before.before in
     rw (ap not (sym w.is_IsWord.ensures) ∙ b.before.if1.false, ← b.bit.ensures.0, ne_eqb _ _ c.if2.true)
 
-returns-3 : tie.Need-returns-3
+returns_3 : tie.Need-returns-3
 unfolding judged
-returns-3 c =
+returns_3 c =
     let v = c.before.before in
     let b = v.before.before in
     let w = b.before.before in
@@ -32,9 +32,9 @@ returns-3 c =
     let again = ap not (sym v.is-word2.ensures) ∙ c.before.if3.true in
     rw (word, bit, again) (ap SecondWord c.first-wrong2.ensures)
 
-returns-4 : tie.Need-returns-4
+returns_4 : tie.Need-returns-4
 unfolding judged
-returns-4 c =
+returns_4 c =
     let v = c.before.before in
     let b = v.before.before in
     let w = b.before.before in
@@ -43,8 +43,8 @@ returns-4 c =
     let again = ap not (sym v.is-word2.ensures) ∙ c.before.if3.false in
     rw (word, bit, again) c.signalled.ensures
 
-pub judge-spec : {M : Type 1} → statement M
-judge-spec =
+pub judge_spec : {M : Type 1} → statement M
+judge_spec =
     tie.close
     (tie.spec
     (search rules)
@@ -52,11 +52,11 @@ judge-spec =
     returns
     (search rules)
     (search rules)
-    returns-2
+    returns_2
     (search rules)
     (search rules)
     (search rules)
     (search rules)
-    returns-3
+    returns_3
     (search rules)
-    returns-4)
+    returns_4)

@@ -6,54 +6,54 @@ use mathlib.Core.Option.{none}
 use native.Mathlib.Omega.{arith}
 use Rattle.base.specs.Tab.{first, least}
 use Rattle.base.proofs.ChoiceLaws.{denies}
-use Rattle.base.proofs.TabLaws.{least_more, some-least, least-none}
+use Rattle.base.proofs.TabLaws.{least_more, some_least, least_none}
 use Rattle.align.specs.Place.{pair_at}
 use Rattle.align.specs.Why.{signalled}
-use Rattle.align.proofs.Laws.{pair-holds, pair-below, no-k}
+use Rattle.align.proofs.Laws.{pair_holds, pair_below, no_k}
 use Rattle.align.proofs.ask.signalled.Statement.{statement}
 use Rattle.align.proofs.ask.signalled.Tie as tie
 
-abbrev invariant-loop : tie.invariant-loop
-invariant-loop s p k₀ k = (k ≤ 19) × (least k (pair_at s p) ≡ none)
+abbrev invariant_loop : tie.invariant_loop
+invariant_loop s p k₀ k = (k ≤ 19) × (least k (pair_at s p) ≡ none)
 
-abbrev decreases-loop : tie.decreases-loop
-decreases-loop s p k₀ k = 19 - k
+abbrev decreases_loop : tie.decreases_loop
+decreases_loop s p k₀ k = 19 - k
 
-none-of-32 : (s : List ℕ) (p : ℕ) → least 19 (pair_at s p) ≡ none → least 32 (pair_at s p) ≡ none
-none-of-32 s p e =
-    (no-k s p).1 (λ k h. denies (pair-holds s p k) (least-none 19 (pair_at s p) e k (pair-below s p k h)) h)
+none_of_32 : (s : List ℕ) (p : ℕ) → least 19 (pair_at s p) ≡ none → least 32 (pair_at s p) ≡ none
+none_of_32 s p e =
+    (no_k s p).1 (λ k h. denies (pair_holds s p k) (least_none 19 (pair_at s p) e k (pair_below s p k h)) h)
 
-returns : tie.Need-returns invariant-loop decreases-loop
+returns : tie.Need-returns invariant_loop decreases_loop
 returns c =
     let l = c.before.before.before in
     let a = l.before.before.args in
     let k = l.loop.k in
-    let here = some-least 32 k (pair_at a.s.now a.p) (omega arith) l.loop.invariant.1 (sym c.before.pair.ensures ∙ c.if1.true) in
+    let here = some_least 32 k (pair_at a.s.now a.p) (omega arith) l.loop.invariant.1 (sym c.before.pair.ensures ∙ c.if1.true) in
     sym (ap signalled here)
 
-loop-again : tie.Need-loop-preserved invariant-loop decreases-loop
-loop-again c =
+loop_again : tie.Need-loop-preserved invariant_loop decreases_loop
+loop_again c =
     let l = c.before.before.before in
     let a = l.before.before.args in
     let k = l.loop.k in
     (omega arith, least_more k (pair_at a.s.now a.p) l.loop.invariant.1 (sym c.before.pair.ensures ∙ c.if1.false))
 
-returns-2 : tie.Need-returns-2 invariant-loop decreases-loop
-returns-2 c =
+returns_2 : tie.Need-returns-2 invariant_loop decreases_loop
+returns_2 c =
     let l = c.before in
     let a = l.before.before.args in
     let e : l.loop.k ≡ 19 = omega arith in
-    sym (ap signalled (none-of-32 a.s.now a.p (rw e at l.loop.invariant.1)))
+    sym (ap signalled (none_of_32 a.s.now a.p (rw e at l.loop.invariant.1)))
 
-pub signalled-spec : {M : Type 1} → statement M
+pub signalled_spec : {M : Type 1} → statement M
 unfolding first
-signalled-spec =
+signalled_spec =
     tie.close
-    (tie.spec invariant-loop decreases-loop
+    (tie.spec invariant_loop decreases_loop
     (λ c. (omega arith, refl))
     (omega arith)
     returns
     (omega arith)
     (omega arith)
-    loop-again
-    returns-2)
+    loop_again
+    returns_2)

@@ -4,15 +4,15 @@ use borrow.Author.Rules.{rules}
 use Rattle.cases.proofs.calls.show_values.Statement.{statement}
 use Rattle.cases.proofs.calls.show_values.Tie as tie
 
-abbrev invariant-loop : tie.invariant-loop
-invariant-loop counts i₀ t4 t5 i = i ≤ 11
+abbrev invariant_loop : tie.invariant_loop
+invariant_loop counts i₀ t4 t5 i = i ≤ 11
 
-abbrev decreases-loop : tie.decreases-loop
-decreases-loop counts i₀ t4 t5 i = 11 - i
+abbrev decreases_loop : tie.decreases_loop
+decreases_loop counts i₀ t4 t5 i = 11 - i
 
-pub show-values-spec : {M : Type 1} → statement M
-show-values-spec =
+pub show_values_spec : {M : Type 1} → statement M
+show_values_spec =
     tie.close
-    (tie.spec invariant-loop decreases-loop
+    (tie.spec invariant_loop decreases_loop
     (search rules) (search rules) (search rules) (search rules) (search rules) (search rules)
     (search rules) (search rules) (search rules) (search rules) (search rules))

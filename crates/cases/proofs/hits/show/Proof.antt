@@ -4,16 +4,16 @@ use borrow.Author.Rules.{rules}
 use Rattle.cases.proofs.hits.show.Statement.{statement}
 use Rattle.cases.proofs.hits.show.Tie as tie
 
-abbrev invariant-loop : tie.invariant-loop
-invariant-loop label overhead bits t1 row to from m₀ t11 m-end m = m ≤ to + 1
+abbrev invariant_loop : tie.invariant_loop
+invariant_loop label overhead bits t1 row to from m₀ t11 m-end m = m ≤ to + 1
 
-abbrev decreases-loop : tie.decreases-loop
-decreases-loop label overhead bits t1 row to from m₀ t11 m-end m = to + 1 - m
+abbrev decreases_loop : tie.decreases_loop
+decreases_loop label overhead bits t1 row to from m₀ t11 m-end m = to + 1 - m
 
-pub show-spec : {M : Type 1} → statement M
-show-spec =
+pub show_spec : {M : Type 1} → statement M
+show_spec =
     tie.close
-    (tie.spec invariant-loop decreases-loop
+    (tie.spec invariant_loop decreases_loop
     (search rules) (search rules) (search rules) (search rules) (search rules) (search rules) (search rules)
     (search rules) (search rules) (search rules) (search rules) (search rules) (search rules) (search rules)
     (search rules) (search rules) (search rules) (search rules) (search rules))

@@ -7,16 +7,16 @@ use lib.ListN.{length, length-set, length-take}
 use Rattle.console.proofs.parse.record.Statement.{statement}
 use Rattle.console.proofs.parse.record.Tie as tie
 
-abbrev invariant-loop : tie.invariant-loop
-invariant-loop row n octets₀ i₀ octets i = (i ≤ n) × (length octets ≡ length octets₀)
+abbrev invariant_loop : tie.invariant_loop
+invariant_loop row n octets₀ i₀ octets i = (i ≤ n) × (length octets ≡ length octets₀)
 
-abbrev decreases-loop : tie.decreases-loop
-decreases-loop row n octets₀ i₀ octets i = n - i
+abbrev decreases_loop : tie.decreases_loop
+decreases_loop row n octets₀ i₀ octets i = n - i
 
-pub record-spec : {M : Type 1} → statement M
-record-spec =
+pub record_spec : {M : Type 1} → statement M
+record_spec =
     tie.close
-    (tie.spec invariant-loop decreases-loop
+    (tie.spec invariant_loop decreases_loop
     (search rules) (search rules) (search rules) (search rules) (search rules) (search rules)
     (search rules) (search rules) (search rules) (search rules)
     (λ c. simp length-set (omega arith))

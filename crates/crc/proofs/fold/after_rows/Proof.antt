@@ -2,7 +2,7 @@
 use mathlib.Core.Path.{◌∙◌}
 use native.Mathlib.Omega.{arith}
 use borrow.Author.Rules.{rules}
-use Rattle.crc.proofs.TableLaws.{two-octets}
+use Rattle.crc.proofs.TableLaws.{two_octets}
 use Rattle.crc.proofs.fold.after_rows.Statement.{statement}
 use Rattle.crc.proofs.fold.after_rows.Tie as tie
 
@@ -10,12 +10,12 @@ returns : tie.Need-returns
 returns c =
     let first = c.before in
     let n = first.before.folded in (
-      c.after-octet2.ensures.0 ∙ two-octets n.result first.after-octet.result first.after-octet.ensures.0 ∙ n.ensures,
+      c.after-octet2.ensures.0 ∙ two_octets n.result first.after-octet.result first.after-octet.ensures.0 ∙ n.ensures,
       c.after-octet2.ensures.1,
     )
 
-pub after-rows-spec : {M : Type 1} → statement M
-after-rows-spec =
+pub after_rows_spec : {M : Type 1} → statement M
+after_rows_spec =
     tie.close
     (tie.spec
     (search rules)

@@ -3,7 +3,7 @@ use mathlib.Core.Path.{refl, ◌∙◌}
 use native.Mathlib.Omega.{arith}
 use borrow.Author.Rules.{rules}
 use lib.Bits.{and_le_r}
-use Rattle.crc.proofs.FoldLaws.{windows-fold}
+use Rattle.crc.proofs.FoldLaws.{windows_fold}
 use Rattle.crc.proofs.fold.folded.Statement.{statement}
 use Rattle.crc.proofs.fold.folded.Tie as tie
 
@@ -13,11 +13,11 @@ returns c =
     let first = second.before in
     let a = first.before.before.args in
     c.fifteen.ensures
-    ∙ windows-fold a.s.now a.q first.windows.result second.windows2.result first.windows.ensures
+    ∙ windows_fold a.s.now a.q first.windows.result second.windows2.result first.windows.ensures
     second.windows2.ensures _ _ refl refl
 
-pub folded-spec : {M : Type 1} → statement M
-folded-spec =
+pub folded_spec : {M : Type 1} → statement M
+folded_spec =
     tie.close
     (tie.spec
     (λ c. omega (arith, and_le_r c.before.args.q 7))

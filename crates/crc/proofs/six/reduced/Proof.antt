@@ -5,7 +5,7 @@ use native.Mathlib.Omega.{arith}
 use borrow.Author.Rules.{rules}
 use lib.Dec.{lit<, lit≤}
 use Rattle.crc.specs.Remainder.{step, after}
-use Rattle.crc.proofs.WordLaws.{remainder-own}
+use Rattle.crc.proofs.WordLaws.{remainder_own}
 use Rattle.crc.proofs.six.reduced.Statement.{statement}
 use Rattle.crc.proofs.six.reduced.Tie as tie
 
@@ -33,13 +33,13 @@ returns c =
     let h5 = e5.1 10 (lit≤ tt) (omega arith) in
     let h6 = e6.1 6 (lit≤ tt) (omega arith) in
     let h7 = e7.1 5 (lit≤ tt) (omega arith) in (
-      sym (remainder-own 6 (lit≤ tt) 64 c.lowered7.result (lit≤ tt) h7) ∙ e7.0 ∙ e6.0 ∙ e5.0 ∙ e4.0 ∙ e3.0 ∙ e2.0 ∙ e1.0,
+      sym (remainder_own 6 (lit≤ tt) 64 c.lowered7.result (lit≤ tt) h7) ∙ e7.0 ∙ e6.0 ∙ e5.0 ∙ e4.0 ∙ e3.0 ∙ e2.0 ∙ e1.0,
       h7,
     )
 
-pub reduced-spec : {M : Type 1} → statement M
+pub reduced_spec : {M : Type 1} → statement M
 unfolding after step
-reduced-spec =
+reduced_spec =
     tie.close
     (tie.spec
     (λ c κs. (lit< tt, lit< tt, refl))

@@ -5,14 +5,14 @@ use native.Mathlib.Omega.{arith}
 use Rattle.drawing.proofs.crossing.outputs.Statement.{statement}
 use Rattle.drawing.proofs.crossing.outputs.Tie as tie
 
-abbrev invariant-loop : tie.invariant-loop
-invariant-loop state pen₀ j₀ pen j = (1 ≤ j) × (j ≤ 32)
+abbrev invariant_loop : tie.invariant_loop
+invariant_loop state pen₀ j₀ pen j = (1 ≤ j) × (j ≤ 32)
 
-abbrev decreases-loop : tie.decreases-loop
-decreases-loop state pen₀ j₀ pen j = 32 - j
+abbrev decreases_loop : tie.decreases_loop
+decreases_loop state pen₀ j₀ pen j = 32 - j
 
-pub outputs-spec : {M : Type 1} → statement M
-outputs-spec =
+pub outputs_spec : {M : Type 1} → statement M
+outputs_spec =
     tie.close
-    (tie.spec invariant-loop decreases-loop (omega arith) (omega arith) (omega arith) (omega arith) (omega arith)
+    (tie.spec invariant_loop decreases_loop (omega arith) (omega arith) (omega arith) (omega arith) (omega arith)
     (omega arith) (omega arith) (λ c. tt))

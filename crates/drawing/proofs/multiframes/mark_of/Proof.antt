@@ -10,20 +10,20 @@ returns : tie.Need-returns
 unfolding mark_of
 returns c = let a = c.before.before.before.args in rw (le-ltb a.b a.r.compared (omega arith))
 
-returns-2 : tie.Need-returns-2
+returns_2 : tie.Need-returns-2
 unfolding mark_of
-returns-2 c =
+returns_2 c =
     let a = c.before.before.before.before.before.before.before.before.args in
     rw (lt-ltb a.b a.r.compared (omega arith), ← c.before.agrees.ensures, c.if2.true)
 
-returns-3 : tie.Need-returns-3
+returns_3 : tie.Need-returns-3
 unfolding mark_of
-returns-3 c =
+returns_3 c =
     let a = c.before.before.before.before.before.before.before.before.args in
     rw (lt-ltb a.b a.r.compared (omega arith), ← c.before.agrees.ensures, c.if2.false)
 
-pub mark-of-spec : {M : Type 1} → statement M
-mark-of-spec =
+pub mark_of_spec : {M : Type 1} → statement M
+mark_of_spec =
     tie.close
     (tie.spec returns (λ c κs. tt) (search rules) (search rules)
-    (λ c κs. (search rules, c.before.before.remainders.ensures)) returns-2 returns-3)
+    (λ c κs. (search rules, c.before.before.remainders.ensures)) returns_2 returns_3)

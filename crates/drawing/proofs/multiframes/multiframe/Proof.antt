@@ -5,15 +5,15 @@ use native.Mathlib.Omega.{arith}
 use Rattle.drawing.proofs.multiframes.multiframe.Statement.{statement}
 use Rattle.drawing.proofs.multiframes.multiframe.Tie as tie
 
-abbrev invariant-loop : tie.invariant-loop
-invariant-loop image slot0 m first second pen₀ f₀ t11 f-end pen f = (f ≤ f-end) × (f-end ≤ 256)
+abbrev invariant_loop : tie.invariant_loop
+invariant_loop image slot0 m first second pen₀ f₀ t11 f-end pen f = (f ≤ f-end) × (f-end ≤ 256)
 
-abbrev decreases-loop : tie.decreases-loop
-decreases-loop image slot0 m first second pen₀ f₀ t11 f-end pen f = f-end - f
+abbrev decreases_loop : tie.decreases_loop
+decreases_loop image slot0 m first second pen₀ f₀ t11 f-end pen f = f-end - f
 
-pub multiframe-spec : {M : Type 1} → statement M
-multiframe-spec =
+pub multiframe_spec : {M : Type 1} → statement M
+multiframe_spec =
     tie.close
-    (tie.spec invariant-loop decreases-loop (search rules) (search rules) (search rules) (search rules) (search rules)
+    (tie.spec invariant_loop decreases_loop (search rules) (search rules) (search rules) (search rules) (search rules)
     (search rules) (search rules) (search rules) (search rules) (omega arith) (omega arith)
     (omega arith) (omega arith) (omega arith) (λ c κs. tt) (λ c κs. tt) (search rules) (λ c κs. tt) (λ c. tt))

@@ -5,13 +5,13 @@ use native.Mathlib.Omega.{arith}
 use Rattle.drawing.proofs.multiframes.multiframes.Statement.{statement}
 use Rattle.drawing.proofs.multiframes.multiframes.Tie as tie
 
-abbrev invariant-loop : tie.invariant-loop
-invariant-loop image slot0 r pen₀ m₀ m-end pen m = (m ≤ m-end) × (m-end ≤ 16)
+abbrev invariant_loop : tie.invariant_loop
+invariant_loop image slot0 r pen₀ m₀ m-end pen m = (m ≤ m-end) × (m-end ≤ 16)
 
-abbrev decreases-loop : tie.decreases-loop
-decreases-loop image slot0 r pen₀ m₀ m-end pen m = m-end - m
+abbrev decreases_loop : tie.decreases_loop
+decreases_loop image slot0 r pen₀ m₀ m-end pen m = m-end - m
 
-pub multiframes-spec : {M : Type 1} → statement M
-multiframes-spec =
+pub multiframes_spec : {M : Type 1} → statement M
+multiframes_spec =
     tie.close
-    (tie.spec invariant-loop decreases-loop (omega arith) (search rules) (omega arith) (omega arith) (omega arith) (λ c. tt))
+    (tie.spec invariant_loop decreases_loop (omega arith) (search rules) (omega arith) (omega arith) (omega arith) (λ c. tt))

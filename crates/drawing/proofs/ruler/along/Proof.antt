@@ -6,8 +6,8 @@ use native.Mathlib.Omega.{arith}
 use Rattle.drawing.proofs.ruler.along.Statement.{statement}
 use Rattle.drawing.proofs.ruler.along.Tie as tie
 
-pub along-spec : {M : Type 1} → statement M
-along-spec =
+pub along_spec : {M : Type 1} → statement M
+along_spec =
     tie.close
     (tie.spec (search rules) (search rules) (search rules)
     (λ c. omega (arith, div-le_self (1032 * c.args.place) (8 * c.args.octets))))

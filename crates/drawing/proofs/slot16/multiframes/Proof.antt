@@ -4,14 +4,14 @@ use borrow.Author.Rules.{rules}
 use Rattle.drawing.proofs.slot16.multiframes.Statement.{statement}
 use Rattle.drawing.proofs.slot16.multiframes.Tie as tie
 
-abbrev invariant-loop : tie.invariant-loop
-invariant-loop octets start s starts pen₀ m₀ pen m = m ≤ 16
+abbrev invariant_loop : tie.invariant_loop
+invariant_loop octets start s starts pen₀ m₀ pen m = m ≤ 16
 
-abbrev decreases-loop : tie.decreases-loop
-decreases-loop octets start s starts pen₀ m₀ pen m = 16 - m
+abbrev decreases_loop : tie.decreases_loop
+decreases_loop octets start s starts pen₀ m₀ pen m = 16 - m
 
-pub multiframes-spec : {M : Type 1} → statement M
-multiframes-spec =
+pub multiframes_spec : {M : Type 1} → statement M
+multiframes_spec =
     tie.close
-    (tie.spec invariant-loop decreases-loop (search rules) (search rules) (search rules) (search rules) (search rules) (search rules)
+    (tie.spec invariant_loop decreases_loop (search rules) (search rules) (search rules) (search rules) (search rules) (search rules)
     (search rules) (search rules))

@@ -5,5 +5,5 @@ use borrow.Author.Rules.{rules}
 use Rattle.given.proofs.hits.below.Statement.{statement}
 use Rattle.given.proofs.hits.below.Tie as tie
 
-pub below-spec : {M : Type 1} → statement M
-below-spec = tie.close (tie.spec (search rules) (λ c. mod-lt _ (omega arith)))
+pub below_spec : {M : Type 1} → statement M
+below_spec = tie.close (tie.spec (search rules) (λ c. mod-lt _ (omega arith)))

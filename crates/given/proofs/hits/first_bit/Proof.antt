@@ -4,15 +4,15 @@ use borrow.Author.Rules.{rules}
 use Rattle.given.proofs.hits.first_bit.Statement.{statement}
 use Rattle.given.proofs.hits.first_bit.Tie as tie
 
-abbrev invariant-loop : tie.invariant-loop
-invariant-loop n d m number e r t₀ t = t ≤ e
+abbrev invariant_loop : tie.invariant_loop
+invariant_loop n d m number e r t₀ t = t ≤ e
 
-abbrev decreases-loop : tie.decreases-loop
-decreases-loop n d m number e r t₀ t = e - t
+abbrev decreases_loop : tie.decreases_loop
+decreases_loop n d m number e r t₀ t = e - t
 
-pub first-bit-spec : {M : Type 1} → statement M
-first-bit-spec =
+pub first_bit_spec : {M : Type 1} → statement M
+first_bit_spec =
     tie.close
-    (tie.spec invariant-loop decreases-loop
+    (tie.spec invariant_loop decreases_loop
     (search rules) (search rules) (search rules) (search rules) (search rules) (search rules) (search rules)
     (search rules) (search rules) (search rules) (search rules) (search rules) (search rules))

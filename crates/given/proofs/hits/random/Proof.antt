@@ -4,15 +4,15 @@ use borrow.Author.Rules.{rules}
 use Rattle.given.proofs.hits.random.Statement.{statement}
 use Rattle.given.proofs.hits.random.Tie as tie
 
-abbrev invariant-loop : tie.invariant-loop
-invariant-loop m n octets₀ x₀ k₀ octets x k = (k ≤ n) × (x < 2147483647)
+abbrev invariant_loop : tie.invariant_loop
+invariant_loop m n octets₀ x₀ k₀ octets x k = (k ≤ n) × (x < 2147483647)
 
-abbrev decreases-loop : tie.decreases-loop
-decreases-loop m n octets₀ x₀ k₀ octets x k = n - k
+abbrev decreases_loop : tie.decreases_loop
+decreases_loop m n octets₀ x₀ k₀ octets x k = n - k
 
-pub random-spec : {M : Type 1} → statement M
-random-spec =
+pub random_spec : {M : Type 1} → statement M
+random_spec =
     tie.close
-    (tie.spec invariant-loop decreases-loop
+    (tie.spec invariant_loop decreases_loop
     (search rules) (search rules) (search rules) (search rules) (search rules)
     (search rules) (search rules) (search rules) (search rules))

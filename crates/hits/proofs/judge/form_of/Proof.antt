@@ -8,9 +8,9 @@ returns : tie.Need-returns
 unfolding form_of
 returns c = sym (ap form_of c.if1.true)
 
-returns-2 : tie.Need-returns-2
+returns_2 : tie.Need-returns-2
 unfolding form_of
-returns-2 c = sym (ap form_of c.if1.false)
+returns_2 c = sym (ap form_of c.if1.false)
 
-pub form-of-spec : {M : Type 1} → statement M
-form-of-spec = tie.close (tie.spec returns returns-2)
+pub form_of_spec : {M : Type 1} → statement M
+form_of_spec = tie.close (tie.spec returns returns_2)

@@ -2,7 +2,7 @@
 use borrow.Author.Rules.{rules}
 use borrow.Author.Tests.{eq-eqb, ne_eqb}
 use Rattle.hits.specs.Verdict.{verdict}
-use Rattle.hits.proofs.VerdictLaws.{form-fits, of-data-bits}
+use Rattle.hits.proofs.VerdictLaws.{form_fits, of_data_bits}
 use Rattle.hits.proofs.judge.verdict_of.Statement.{statement}
 use Rattle.hits.proofs.judge.verdict_of.Tie as tie
 
@@ -10,15 +10,15 @@ returns : tie.Need-returns
 unfolding verdict
 returns c = rw (← c.before.before.before.form_of.ensures, c.if1.true)
 
-returns-2 : tie.Need-returns-2
+returns_2 : tie.Need-returns-2
 unfolding verdict
-returns-2 c =
+returns_2 c =
     let i = c.before.before in
     rw (← i.before.before.before.form_of.ensures, i.if1.false, eq-eqb _ 0 c.if2.true)
 
-returns-3 : tie.Need-returns-3
+returns_3 : tie.Need-returns-3
 unfolding verdict
-returns-3 c =
+returns_3 c =
     let a = c.before.before in
     let i = a.before.before in
     rw (
@@ -28,9 +28,9 @@ returns-3 c =
       eq-eqb _ 0 c.if3.true,
     )
 
-returns-4 : tie.Need-returns-4
+returns_4 : tie.Need-returns-4
 unfolding verdict
-returns-4 c =
+returns_4 c =
     let b = c.before in
     let a = b.before.before in
     let i = a.before.before in
@@ -42,44 +42,44 @@ returns-4 c =
       eq-eqb _ _ c.if4.true,
     )
 
-returns-5 : tie.Need-returns-5
-returns-5 c =
+returns_5 : tie.Need-returns-5
+returns_5 c =
     let e = c.before.before in
     let b = e.before.before in
     let a = b.before.before in
     let i = a.before.before in
     let f = i.before.before.before.form_of.ensures in
     rw (
-      of-data-bits _ _ _ _ f i.if1.false a.if2.false b.if3.false e.before.if4.false,
+      of_data_bits _ _ _ _ f i.if1.false a.if2.false b.if3.false e.before.if4.false,
       ← e.distance.ensures,
       eq-eqb _ 0 c.if5.true,
     )
 
-returns-6 : tie.Need-returns-6
-returns-6 c =
+returns_6 : tie.Need-returns-6
+returns_6 c =
     let e = c.before.before in
     let b = e.before.before in
     let a = b.before.before in
     let i = a.before.before in
     let f = i.before.before.before.form_of.ensures in
     rw (
-      of-data-bits _ _ _ _ f i.if1.false a.if2.false b.if3.false e.before.if4.false,
+      of_data_bits _ _ _ _ f i.if1.false a.if2.false b.if3.false e.before.if4.false,
       ← e.distance.ensures,
       ne_eqb _ 0 c.if5.false,
     )
 
-pub verdict-of-spec : {M : Type 1} → statement M
-verdict-of-spec =
+pub verdict_of_spec : {M : Type 1} → statement M
+verdict_of_spec =
     tie.close
     (tie.spec
     (search rules)
     returns
-    (λ c. rw c.before.before.before.before.form_of.ensures (form-fits _).strided)
-    returns-2
-    (λ c. rw c.before.before.before.before.before.before.form_of.ensures (form-fits _).strided)
-    returns-3
-    returns-4
+    (λ c. rw c.before.before.before.before.form_of.ensures (form_fits _).strided)
+    returns_2
+    (λ c. rw c.before.before.before.before.before.before.form_of.ensures (form_fits _).strided)
+    returns_3
+    returns_4
     (search rules)
-    (λ c. rw c.before.before.before.before.before.before.before.before.before.before.form_of.ensures (form-fits _).ordered)
-    returns-5
-    returns-6)
+    (λ c. rw c.before.before.before.before.before.before.before.before.before.before.form_of.ensures (form_fits _).ordered)
+    returns_5
+    returns_6)

@@ -6,28 +6,28 @@ use borrow.Author.Rules.{rules}
 use lib.Pow.{pow_mono}
 use Rattle.crc.specs.Remainder.{zeros, after}
 use Rattle.crc.specs.Share.{share}
-use Rattle.crc.proofs.ShareLaws.{share-after}
+use Rattle.crc.proofs.ShareLaws.{share_after}
 use Rattle.hits.proofs.StepLaws.{no_more, one_fewer}
 use Rattle.hits.proofs.share.share.Statement.{statement}
 use Rattle.hits.proofs.share.share.Tie as tie
 
-abbrev invariant-loop : tie.invariant-loop
-invariant-loop w k r₀ -bit₀ end r i =
+abbrev invariant_loop : tie.invariant_loop
+invariant_loop w k r₀ -bit₀ end r i =
     (i ≤ end) × (end ≡ k + w) × (r < 2 ^ w) × (share w k ≡ after w r (zeros (end - i)))
 
-abbrev decreases-loop : tie.decreases-loop
-decreases-loop w k r₀ -bit₀ end r i = end - i
+abbrev decreases_loop : tie.decreases_loop
+decreases_loop w k r₀ -bit₀ end r i = end - i
 
-loop-holds : tie.Need-loop-init invariant-loop decreases-loop
-loop-holds c =
+loop_holds : tie.Need-loop-init invariant_loop decreases_loop
+loop_holds c =
     let w = c.args.w in
     let k = c.args.k in
     let four : 4 ≤ 2 ^ w = pow_mono c.requires.0 in
     let all : k + w ≡ k + w - 0 = omega arith in
-    (omega arith, refl, omega arith, share-after w c.requires.0 k ∙ ap (λ n. after w 1 (zeros n)) all)
+    (omega arith, refl, omega arith, share_after w c.requires.0 k ∙ ap (λ n. after w 1 (zeros n)) all)
 
-loop-again : tie.Need-loop-preserved invariant-loop decreases-loop
-loop-again c =
+loop_again : tie.Need-loop-preserved invariant_loop decreases_loop
+loop_again c =
     let l = c.before.before in
     let w = l.before.args.w in
     let n = l.before.args.k + w in
@@ -39,13 +39,13 @@ loop-again c =
       l.loop.invariant.3 ∙ on ∙ ap (λ x. after w x (zeros (n - (i + 1)))) (sym c.step.ensures.0),
     )
 
-returns : tie.Need-returns invariant-loop decreases-loop
+returns : tie.Need-returns invariant_loop decreases_loop
 returns c =
     let l = c.before in
     let w = l.before.args.w in
     sym (l.loop.invariant.3 ∙ no_more w l.loop.r (l.before.args.k + w - l.loop.-bit) (omega arith))
 
-pub share-spec : {M : Type 1} → statement M
-share-spec =
+pub share_spec : {M : Type 1} → statement M
+share_spec =
     tie.close
-    (tie.spec invariant-loop decreases-loop (omega arith) loop-holds (search rules) (omega arith) (omega arith) loop-again returns)
+    (tie.spec invariant_loop decreases_loop (omega arith) loop_holds (search rules) (omega arith) (omega arith) loop_again returns)

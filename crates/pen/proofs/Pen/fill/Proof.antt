@@ -6,17 +6,17 @@ use native.Mathlib.Omega.{arith}
 use Rattle.pen.proofs.Pen.fill.Statement.{statement}
 use Rattle.pen.proofs.Pen.fill.Tie as tie
 
-abbrev invariant-loop : tie.invariant-loop
-invariant-loop words numbers pen₀ done₀ k₀ i₀ i-end pen done k i =
+abbrev invariant_loop : tie.invariant_loop
+invariant_loop words numbers pen₀ done₀ k₀ i₀ i-end pen done k i =
     (i ≤ i-end) × (i-end ≡ length words) × (done ≤ i) × (k ≤ length numbers)
 
-abbrev decreases-loop : tie.decreases-loop
-decreases-loop words numbers pen₀ done₀ k₀ i₀ i-end pen done k i = i-end - i
+abbrev decreases_loop : tie.decreases_loop
+decreases_loop words numbers pen₀ done₀ k₀ i₀ i-end pen done k i = i-end - i
 
 pub fill_spec : {M : Type 1} → statement M
 fill_spec =
     tie.close
-    (tie.spec invariant-loop decreases-loop (omega arith) (omega arith) (omega arith) (omega arith) (omega arith)
+    (tie.spec invariant_loop decreases_loop (omega arith) (omega arith) (omega arith) (omega arith) (omega arith)
     (omega arith) (omega arith) (omega arith) (λ c κs. tt) (omega arith) (omega arith) (λ c κs. tt)
     (omega arith) (omega arith) (omega arith) (omega arith) (omega arith) (omega arith) (omega arith)
     (omega arith) (λ c κs. tt) (λ c. tt))

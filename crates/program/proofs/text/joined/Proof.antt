@@ -7,5 +7,5 @@ use Rattle.program.proofs.text.joined.Tie as tie
 returns : tie.Need-returns
 returns c = omega (arith, c.if1.true)
 
-pub joined-spec : {M : Type 1} → statement M
-joined-spec = tie.close (tie.spec (search rules) returns (search rules) (search rules) (search rules))
+pub joined_spec : {M : Type 1} → statement M
+joined_spec = tie.close (tie.spec (search rules) returns (search rules) (search rules) (search rules))

@@ -5,15 +5,15 @@ use lib.ListN.{length}
 use Rattle.program.proofs.text.line_of.Statement.{statement}
 use Rattle.program.proofs.text.line_of.Tie as tie
 
-abbrev invariant-loop : tie.invariant-loop
-invariant-loop table word k₀ at₀ k at = (at ≤ length table + 1) × (k ≤ at)
+abbrev invariant_loop : tie.invariant_loop
+invariant_loop table word k₀ at₀ k at = (at ≤ length table + 1) × (k ≤ at)
 
-abbrev decreases-loop : tie.decreases-loop
-decreases-loop table word k₀ at₀ k at = length table + 1 - at
+abbrev decreases_loop : tie.decreases_loop
+decreases_loop table word k₀ at₀ k at = length table + 1 - at
 
-pub line-of-spec : {M : Type 1} → statement M
-line-of-spec =
+pub line_of_spec : {M : Type 1} → statement M
+line_of_spec =
     tie.close
-    (tie.spec invariant-loop decreases-loop
+    (tie.spec invariant_loop decreases_loop
     (search rules) (search rules) (search rules) (search rules) (search rules) (search rules) (search rules)
     (search rules) (search rules) (search rules) (search rules) (search rules) (search rules))

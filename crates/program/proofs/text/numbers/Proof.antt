@@ -5,16 +5,16 @@ use lib.ListN.{length}
 use Rattle.program.proofs.text.numbers.Statement.{statement}
 use Rattle.program.proofs.text.numbers.Tie as tie
 
-abbrev invariant-loop : tie.invariant-loop
-invariant-loop s row₀ n₀ at₀ row n at = (n ≤ 8) × (at ≤ length s)
+abbrev invariant_loop : tie.invariant_loop
+invariant_loop s row₀ n₀ at₀ row n at = (n ≤ 8) × (at ≤ length s)
 
-abbrev decreases-loop : tie.decreases-loop
-decreases-loop s row₀ n₀ at₀ row n at = 8 - n
+abbrev decreases_loop : tie.decreases_loop
+decreases_loop s row₀ n₀ at₀ row n at = 8 - n
 
-pub numbers-spec : {M : Type 1} → statement M
-numbers-spec =
+pub numbers_spec : {M : Type 1} → statement M
+numbers_spec =
     tie.close
-    (tie.spec invariant-loop decreases-loop
+    (tie.spec invariant_loop decreases_loop
     (search rules) (search rules) (search rules) (search rules) (search rules) (search rules)
     (search rules) (search rules) (search rules) (search rules) (search rules) (search rules)
     (search rules) (search rules) (search rules) (search rules) (search rules) (search rules))

@@ -5,14 +5,14 @@ use lib.ListN.{length}
 use Rattle.program.proofs.text.skip.Statement.{statement}
 use Rattle.program.proofs.text.skip.Tie as tie
 
-abbrev invariant-loop : tie.invariant-loop
-invariant-loop s at blanks i₀ i = (at ≤ i) × (i ≤ length s)
+abbrev invariant_loop : tie.invariant_loop
+invariant_loop s at blanks i₀ i = (at ≤ i) × (i ≤ length s)
 
-abbrev decreases-loop : tie.decreases-loop
-decreases-loop s at blanks i₀ i = length s - i
+abbrev decreases_loop : tie.decreases_loop
+decreases_loop s at blanks i₀ i = length s - i
 
-pub skip-spec : {M : Type 1} → statement M
-skip-spec =
+pub skip_spec : {M : Type 1} → statement M
+skip_spec =
     tie.close
-    (tie.spec invariant-loop decreases-loop (search rules) (search rules) (search rules) (search rules) (search rules)
+    (tie.spec invariant_loop decreases_loop (search rules) (search rules) (search rules) (search rules) (search rules)
     (search rules) (search rules) (search rules))

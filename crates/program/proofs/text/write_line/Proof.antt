@@ -5,15 +5,15 @@ use lib.ListN.{length}
 use Rattle.program.proofs.text.write_line.Statement.{statement}
 use Rattle.program.proofs.text.write_line.Tie as tie
 
-abbrev invariant-loop : tie.invariant-loop
-invariant-loop fd table k at₀ -line₀ at -line = (-line ≤ k) × (at ≤ length table + 1)
+abbrev invariant_loop : tie.invariant_loop
+invariant_loop fd table k at₀ -line₀ at -line = (-line ≤ k) × (at ≤ length table + 1)
 
-abbrev decreases-loop : tie.decreases-loop
-decreases-loop fd table k at₀ -line₀ at -line = k - -line
+abbrev decreases_loop : tie.decreases_loop
+decreases_loop fd table k at₀ -line₀ at -line = k - -line
 
-pub write-line-spec : {M : Type 1} → statement M
-write-line-spec =
+pub write_line_spec : {M : Type 1} → statement M
+write_line_spec =
     tie.close
-    (tie.spec invariant-loop decreases-loop
+    (tie.spec invariant_loop decreases_loop
     (search rules) (search rules) (search rules) (search rules) (search rules) (search rules) (search rules)
     (search rules) (search rules) (search rules) (search rules) (search rules) (search rules) (search rules))

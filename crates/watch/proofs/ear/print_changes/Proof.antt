@@ -4,14 +4,14 @@ use borrow.Author.Rules.{rules}
 use Rattle.watch.proofs.ear.print_changes.Statement.{statement}
 use Rattle.watch.proofs.ear.print_changes.Tie as tie
 
-abbrev invariant-loop : tie.invariant-loop
-invariant-loop last now ok₀ c₀ ok c = (1 ≤ c) × (c ≤ 31)
+abbrev invariant_loop : tie.invariant_loop
+invariant_loop last now ok₀ c₀ ok c = (1 ≤ c) × (c ≤ 31)
 
-abbrev decreases-loop : tie.decreases-loop
-decreases-loop last now ok₀ c₀ ok c = 31 - c
+abbrev decreases_loop : tie.decreases_loop
+decreases_loop last now ok₀ c₀ ok c = 31 - c
 
-pub print-changes-spec : {M : Type 1} → statement M
-print-changes-spec =
+pub print_changes_spec : {M : Type 1} → statement M
+print_changes_spec =
     tie.close
-    (tie.spec invariant-loop decreases-loop (search rules) (search rules) (search rules) (search rules) (search rules) (search rules)
+    (tie.spec invariant_loop decreases_loop (search rules) (search rules) (search rules) (search rules) (search rules) (search rules)
     (search rules) (search rules) (search rules) (search rules))
