@@ -1,4 +1,5 @@
 // The search for the first place of an image that stands.
+#![tactic(auto)]
 pub mod ask;
 
 ghost use Rattle.std.specs.Prelude.{◌≡◌, ◌+◌, ◌-◌, ◌*◌, ◌^◌, ◌<◌, ◌≤◌, min, ltb, length};

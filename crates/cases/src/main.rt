@@ -1,6 +1,7 @@
 // The bench cases that are not proved, and more of their kind. A text of cases, from the file that the argument names
 // or from standard input, has a line for each: a label, a colon, and steps with semicolons between them. Each call that
 // a step makes prints a line.
+#![tactic(auto)]
 mod calls;
 mod chunks;
 mod hits;

@@ -1,4 +1,6 @@
 // Frames, blocks and the payload of an E1 line.
+#![tactic(auto)]
+
 ghost use Rattle.std.specs.Prelude.{◌≡◌, [], ◌∷◌, ◌+◌, ◌*◌, ◌<◌, ◌≤◌};
 ghost use Rattle.line.specs.Bit.{Room, octet_bits};
 ghost use Rattle.line.specs.Spelt.{digit};

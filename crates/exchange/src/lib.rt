@@ -1,4 +1,5 @@
 // The map and the key.
+#![tactic(auto)]
 ghost use Rattle.std.specs.Prelude.{◌≡◌, ◌∷◌, ℕ, ◌<◌, ◌≤◌, length, get_or};
 ghost use Rattle.base.specs.Tab.{tab};
 ghost use Rattle.exchange.specs.Mapping.{entry_used, entry_at, mapped_payload, Mapped};

@@ -1,6 +1,7 @@
 // Frames a payload: its 496n octets and then the 8n overhead octets come from the file that the argument names or from
 // standard input, and the line goes to standard output. With `--signalled`, before the file, n octets XY and 30n octets
 // ABCD come behind them.
+#![tactic(auto)]
 ghost use Rattle.std.specs.Prelude.{◌≤◌, length};
 
 // what was written of a line, or why nothing was

@@ -1,4 +1,5 @@
 // What the cases are made of: a payload, an overhead, signalling, bits for T1, and a line with its damage.
+#![tactic(auto)]
 pub mod hits;
 
 ghost use Rattle.std.specs.Prelude.{◌<◌, ◌≤◌};

@@ -1,5 +1,6 @@
 // Says of two hits on data bits of one block whether the check sees them, and what each of the bits adds to the check. The
 // bits are the arguments; with `--t1` before them the block is a superframe of T1.
+#![tactic(auto)]
 mod judge;
 mod share;
 

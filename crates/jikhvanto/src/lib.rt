@@ -1,4 +1,5 @@
 // The C interface: each entry of the kit, over a state in lent octets and an answer in lent places.
+#![tactic(auto)]
 pub mod t1;
 
 ghost use Rattle.std.specs.Prelude.{◌≡◌, [], ◌∷◌, ◌++◌, ◌+◌, ◌≤◌, ◌<◌, length, drop, eqb};

@@ -1,3 +1,4 @@
+#![tactic(auto)]
 ghost use Rattle.std.specs.Prelude.{◌≡◌, ◌+◌, ◌-◌, ◌*◌, ◌^◌, ◌<◌, ◌≤◌, length};
 ghost use Rattle.line.specs.Bit.{bit_at, field, octet_at};
 ghost use Rattle.line.specs.Spelt.{spelt_octet};

@@ -1,5 +1,6 @@
 // What is read from a multiframe start on: the alignment words and bits 2 tracked, blocks judged, E bits counted, and the
 // octets of multiframes written.
+#![tactic(auto)]
 ghost use Rattle.std.specs.Prelude.{◌≡◌, ◌++◌, ◌+◌, ◌-◌, ◌*◌, ◌^◌, ◌<◌, ◌≤◌, eqb, length, drop};
 ghost use Rattle.line.specs.Bit.{Room};
 ghost use Rattle.base.specs.Choice.{if◌then◌else◌};

@@ -1,4 +1,5 @@
 // Pieces of an SVG picture, written one after the other.
+#![tactic(auto)]
 
 // Where to write, and whether all went well. After a write that fails no other is tried, so errno stays as it left it.
 #[derive(Drop)]

@@ -1,4 +1,5 @@
 // What the programs share: the input that they are given, what they print and say, and text taken apart.
+#![tactic(auto)]
 mod refusal;
 pub mod text;
 

@@ -1,4 +1,5 @@
 // Reads a line, from the file that the argument names or from standard input, and prints its report.
+#![tactic(auto)]
 
 fn report(image: &[u8]) {
     let mut payload = [0u8; 7936];

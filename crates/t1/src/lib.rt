@@ -1,4 +1,5 @@
 // Superframes of a T1 line: their framing bits, the check that they carry, and their own.
+#![tactic(auto)]
 pub mod raw;
 
 ghost use Rattle.std.specs.Prelude.{◌≡◌, List, ℕ, ◌+◌, ◌*◌, ◌^◌, ◌<◌, ◌≤◌, length};

@@ -1,6 +1,7 @@
 // Frames a payload for T1: its 576n octets and then the 12n octets of the data link come from the file that the argument
 // names or from standard input, and the line goes to standard output. With `--signalled`, before the file, 96n octets of
 // signalling come behind them.
+#![tactic(auto)]
 ghost use Rattle.std.specs.Prelude.{◌≤◌, length};
 
 // what was written of a line, or why nothing was

@@ -1,4 +1,5 @@
 // Writing superframes of a T1 line.
+#![tactic(auto)]
 ghost use Rattle.std.specs.Prelude.{◌≡◌, ◌++◌, ◌+◌, ◌-◌, ◌*◌, ◌/◌, ◌%◌, ◌^◌, ◌<◌, ◌≤◌, length, drop};
 ghost use Rattle.base.specs.Answer.{first_number};
 ghost use Rattle.line.specs.Spelt.{packed, spelt};

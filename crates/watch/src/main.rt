@@ -1,6 +1,7 @@
 // Reads a line as it comes, from the file that the argument names or from standard input, and prints at its end what
 // `report` prints of a line that is read at once. Before the file, `--payload FILE` puts the payload into that file as it
 // leaves, and `--phones` prints which channels change, as they are heard.
+#![tactic(auto)]
 mod asked;
 mod ear;
 

@@ -9,7 +9,7 @@ use Rattle.crc.proofs.after_zeros.Tie as tie
 returns : tie.Need-returns
 returns c =
     let s = c.before in
-    (c.after-octet.ensures.0 ∙ four_zeros s.args.r s.requires.0, c.after-octet.ensures.1)
+    (c.after_octet.ensures.0 ∙ four_zeros s.args.r s.requires.0, c.after_octet.ensures.1)
 
 pub after_zeros_spec : {M : Type 1} → statement M
 after_zeros_spec = tie.close (tie.spec (search rules) (λ c κs. (omega arith, c.requires.1)) returns)

@@ -7,7 +7,7 @@ use Rattle.e1.proofs.agrees.Tie as tie
 
 returns : tie.Need-returns
 unfolding agrees
-returns c = rw (c.before.block-check.ensures.0, c.carried2.ensures) refl
+returns c = rw (c.before.block_check.ensures.0, c.carried-2.ensures) refl
 
 pub agrees_spec : {M : Type 1} → statement M
 agrees_spec =

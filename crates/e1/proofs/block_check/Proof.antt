@@ -13,10 +13,10 @@ returns c =
     let rows = last.before in
     let start = rows.before.before in
     let a = start.args in
-    let e = o.after-octet.ensures.0
-    ∙ last_octet a.s.now a.q rows.after-rows.result last.octet.result bits.spaced.result a.c
-    rows.after-rows.ensures.0 last.octet.ensures bits.spaced.ensures start.requires.1 in
-    (c.after-zeros.ensures.0 ∙ block_closed a.s.now a.q o.after-octet.result e, c.after-zeros.ensures.1)
+    let e = o.after_octet.ensures.0
+    ∙ last_octet a.s.now a.q rows.after_rows-r.result last.octet.result bits.spaced.result a.c
+    rows.after_rows-r.ensures.0 last.octet.ensures bits.spaced.ensures start.requires.1 in
+    (c.after_zeros.ensures.0 ∙ block_closed a.s.now a.q o.after_octet.result e, c.after_zeros.ensures.1)
 
 pub block_check_spec : {M : Type 1} → statement M
 block_check_spec =
@@ -26,6 +26,6 @@ block_check_spec =
     (search rules)
     (search rules)
     (λ c κs. tt)
-    (λ c κs. (c.before.before.after-rows.ensures.1, c.before.before.before.before.requires.2))
-    (λ c κs. (c.after-octet.ensures.1, c.before.before.before.before.before.requires.2))
+    (λ c κs. (c.before.before.after_rows-r.ensures.1, c.before.before.before.before.requires.2))
+    (λ c κs. (c.after_octet.ensures.1, c.before.before.before.before.before.requires.2))
     returns)

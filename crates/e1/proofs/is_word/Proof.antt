@@ -5,4 +5,4 @@ use Rattle.e1.proofs.is_word.Statement.{statement}
 use Rattle.e1.proofs.is_word.Tie as tie
 
 pub is_word_spec : {M : Type 1} → statement M
-is_word_spec = tie.close (tie.spec (search rules) (λ c. rw c.wrong_bits_lem.ensures.0 refl))
+is_word_spec = tie.close (tie.spec (search rules) (λ c. rw c.wrong_bits.ensures.0 refl))

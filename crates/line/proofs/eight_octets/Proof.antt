@@ -12,8 +12,8 @@ returns c =
     let b = c.before.before in
     let s = b.before.args.s.now in
     let i = b.before.args.i in
-    rw (c.before.little.ensures.0, c.little2.ensures.0)
-    (ap (turned 8) (four_and_four s i) ∙ turned_field s (λ j. (b.shared-slice-known.given j).fits) i 8 8 (omega arith))
+    rw (c.before.little.ensures.0, c.little-2.ensures.0)
+    (ap (turned 8) (four_and_four s i) ∙ turned_field s (λ j. (b.shared_slice_known-1.given j).fits) i 8 8 (omega arith))
 
 pub eight_octets_spec : {M : Type 1} → statement M
 eight_octets_spec = tie.close (tie.spec (search rules) (omega arith) (search rules) (omega arith) (omega arith) returns)

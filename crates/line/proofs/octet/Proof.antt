@@ -10,7 +10,7 @@ use Rattle.line.proofs.octet.Tie as tie
 returns : tie.Need-returns
 returns c =
     let a = c.before.before.args in
-    c.octet-in.ensures ∙ ap (octet_at a.s.now) (place_in a.p)
+    c.octet_in.ensures ∙ ap (octet_at a.s.now) (place_in a.p)
 
 pub octet_spec : {M : Type 1} → statement M
 octet_spec =

@@ -13,20 +13,20 @@ use Rattle.t1.specs.Raw.{framing_of}
 use Rattle.t1.proofs.carried_by.Statement.{statement}
 use Rattle.t1.proofs.carried_by.Tie as tie
 
-abbrev invariant_loop : tie.invariant_loop
+abbrev invariant_loop : tie.invariant-loop-i
 invariant_loop framing c₀ i₀ c i = (i ≤ 6) × (c ≡ spelt i (λ j. digit 24 framing (4 * j + 1))) × (c < 64)
 
-abbrev decreases_loop : tie.decreases_loop
+abbrev decreases_loop : tie.decreases-loop-i
 decreases_loop framing c₀ i₀ c i = 6 - i
 
-loop_again : tie.Need-loop-preserved invariant_loop decreases_loop
+loop_again : tie.Need-loop-i-preserved invariant_loop decreases_loop
 loop_again c =
     let l = c.before in
     let x = l.before.args.framing in
-    let i = l.loop.i in
+    let i = l.loop-i.i in
     let f : ℕ → ℕ = λ j. digit 24 x (4 * j + 1) in
     let n : 22 - 4 * i ≡ 24 - 1 - (4 * i + 1) = omega arith in
-    let e = ap₂ (λ y z. 2 * y + z) l.loop.invariant.1 (ap (λ k. x / 2 ^ k % 2) n) ∙ sym (spelt_more i f) in
+    let e = ap₂ (λ y z. 2 * y + z) l.loop-i.invariant.1 (ap (λ k. x / 2 ^ k % 2) n) ∙ sym (spelt_more i f) in
     let lt = spelt_lt (i + 1) f (λ j. mod-lt (x / 2 ^ (24 - 1 - (4 * j + 1))) (zero-lt-suc 1)) in
     let few : 2 ^ (i + 1) ≤ 2 ^ 6 = pow_mono {i = i + 1} {j = 6} (omega arith) in
     (omega arith, e, omega arith)
@@ -36,13 +36,13 @@ unfolding carried framing_of
 returns c =
     let l = c.before in
     let x = l.before.args.framing in
-    let e : l.loop.i ≡ 6 = omega arith in (
+    let e : l.loop-i.i ≡ 6 = omega arith in (
       λ s q own.
           let g : ℕ → ℕ = λ f. bit_at s (q + 193 * f) in
-          l.loop.invariant.1 ∙ ap (λ n. spelt n (λ j. digit 24 x (4 * j + 1))) e
+          l.loop-i.invariant.1 ∙ ap (λ n. spelt n (λ j. digit 24 x (4 * j + 1))) e
           ∙ spelt_agree 6 (λ j. digit 24 x (4 * j + 1)) (λ j. g (4 * j + 1))
           (λ j h. ap (λ y. digit 24 y (4 * j + 1)) own ∙ digit_spelt 24 (4 * j + 1) g (λ f. bit_lt s (q + 193 * f)) (omega arith)),
-      l.loop.invariant.2,
+      l.loop-i.invariant.2,
     )
 
 pub carried_by_spec : {M : Type 1} → statement M

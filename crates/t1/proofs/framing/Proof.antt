@@ -15,10 +15,10 @@ use Rattle.t1.specs.Raw.{framing_of}
 use Rattle.t1.proofs.framing.Statement.{statement}
 use Rattle.t1.proofs.framing.Tie as tie
 
-abbrev invariant_loop : tie.invariant_loop
+abbrev invariant_loop : tie.invariant-loop-f
 invariant_loop s i o bits₀ f₀ bits f = (f ≤ 24) × (bits ≡ spelt f (λ g. bit_at s (8 * i + o + 193 * g))) × (bits < 2 ^ 24)
 
-abbrev decreases_loop : tie.decreases_loop
+abbrev decreases_loop : tie.decreases-loop-f
 decreases_loop s i o bits₀ f₀ bits f = 24 - f
 
 -- bit k of a window
@@ -29,16 +29,16 @@ window_bit s p k w h e =
     let top : x / 2 ^ 63 ≡ bit_of x 63 = omega arith in
     top ∙ ap (bit_of x) (sym n) ∙ moved_bit w (63 - k) k 64 (omega arith) ∙ bit_at_lem s p k (63 - k) w e (omega arith)
 
-loop_again : tie.Need-loop-preserved invariant_loop decreases_loop
+loop_again : tie.Need-loop-f-preserved invariant_loop decreases_loop
 loop_again c =
     let l = c.before.before in
     let a = l.before.before.args in
-    let f = l.loop.f in
+    let f = l.loop-f.f in
     let g : ℕ → ℕ = λ g. bit_at a.s.now (8 * a.i + a.o + 193 * g) in
     let p : 8 * (a.i + 24 * f) + (a.o + f) ≡ 8 * a.i + a.o + 193 * f = omega arith in
     let bit = window_bit a.s.now (8 * (a.i + 24 * f)) (a.o + f) c.window.result (omega arith) c.window.ensures
     ∙ ap (bit_at a.s.now) p in
-    let e = ap₂ (λ x y. 2 * x + y) l.loop.invariant.1 bit ∙ sym (spelt_more f g) in
+    let e = ap₂ (λ x y. 2 * x + y) l.loop-f.invariant.1 bit ∙ sym (spelt_more f g) in
     let lt = spelt_lt (f + 1) g (λ j. bit_lt a.s.now (8 * a.i + a.o + 193 * j)) in
     let few : 2 ^ (f + 1) ≤ 2 ^ 24 = pow_mono {i = f + 1} {j = 24} (omega arith) in
     (omega arith, e, omega arith)
@@ -48,8 +48,8 @@ unfolding framing_of
 returns c =
     let l = c.before in
     let a = l.before.before.args in
-    let e : l.loop.f ≡ 24 = omega arith in
-    (l.loop.invariant.1 ∙ ap (λ n. spelt n (λ g. bit_at a.s.now (8 * a.i + a.o + 193 * g))) e, l.loop.invariant.2)
+    let e : l.loop-f.f ≡ 24 = omega arith in
+    (l.loop-f.invariant.1 ∙ ap (λ n. spelt n (λ g. bit_at a.s.now (8 * a.i + a.o + 193 * g))) e, l.loop-f.invariant.2)
 
 pub framing_spec : {M : Type 1} → statement M
 unfolding spelt
@@ -64,7 +64,7 @@ framing_spec =
     (omega arith)
     (omega arith)
     (λ c.
-    let x = c.window.result * 2 ^ (c.before.before.before.before.args.o + c.before.before.loop.f) in
+    let x = c.window.result * 2 ^ (c.before.before.before.before.args.o + c.before.before.loop-f.f) in
     omega (arith, mod-lt x (pow_pos 64)))
     (omega arith)
     (omega arith)

@@ -9,9 +9,9 @@ use Rattle.crc.proofs.fold.after_rows.Tie as tie
 returns : tie.Need-returns
 returns c =
     let first = c.before in
-    let n = first.before.folded in (
-      c.after-octet2.ensures.0 ∙ two_octets n.result first.after-octet.result first.after-octet.ensures.0 ∙ n.ensures,
-      c.after-octet2.ensures.1,
+    let n = first.before.folded-n in (
+      c.after_octet.ensures.0 ∙ two_octets n.result first.after_octet-r.result first.after_octet-r.ensures.0 ∙ n.ensures,
+      c.after_octet.ensures.1,
     )
 
 pub after_rows_spec : {M : Type 1} → statement M
@@ -22,5 +22,5 @@ after_rows_spec =
     (search rules)
     (λ c κs. (omega arith, c.before.before.requires.1))
     (search rules)
-    (λ c κs. (c.after-octet.ensures.1, c.before.before.before.requires.1))
+    (λ c κs. (c.after_octet-r.ensures.1, c.before.before.before.requires.1))
     returns)

@@ -13,8 +13,8 @@ returns c =
     let first = second.before in
     let a = first.before.before.args in
     c.fifteen.ensures
-    ∙ windows_fold a.s.now a.q first.windows.result second.windows2.result first.windows.ensures
-    second.windows2.ensures _ _ refl refl
+    ∙ windows_fold a.s.now a.q first.windows-a.result second.windows-b.result first.windows-a.ensures
+    second.windows-b.ensures _ _ refl refl
 
 pub folded_spec : {M : Type 1} → statement M
 folded_spec =

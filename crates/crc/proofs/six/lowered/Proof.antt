@@ -9,7 +9,7 @@ use Rattle.crc.proofs.WordLaws.{lowered_same, lowered_lt, lowered_word, one_move
 use Rattle.crc.proofs.six.lowered.Statement.{statement}
 use Rattle.crc.proofs.six.lowered.Tie as tie
 
-rem_result : tie.Need-nonzero-rem-result
+rem_result : tie.Need-nonzero_rem-result
 rem_result c = let k = c.args.k in subst (λ x. 0 < x) (sym (one_moved k c.requires.1)) (pow_pos k)
 
 returns : tie.Need-returns

@@ -18,13 +18,13 @@ returns c =
     let c3 = c4.before in
     let c2 = c3.before in
     let c1 = c2.before in
-    let e1 = c1.lowered.ensures in
-    let e2 = c2.lowered2.ensures in
-    let e3 = c3.lowered3.ensures in
-    let e4 = c4.lowered4.ensures in
-    let e5 = c5.lowered5.ensures in
-    let e6 = c6.lowered6.ensures in
-    let e7 = c.lowered7.ensures in
+    let e1 = c1.lowered-by_48.ensures in
+    let e2 = c2.lowered.ensures in
+    let e3 = c3.lowered-by_24.ensures in
+    let e4 = c4.lowered-2.ensures in
+    let e5 = c5.lowered-by_12.ensures in
+    let e6 = c6.lowered-3.ensures in
+    let e7 = c.lowered-4.ensures in
     let h0 : c1.before.args.a < 2 ^ 64 = search rules in
     let h1 = e1.1 40 (lit≤ tt) (omega arith) in
     let h2 = e2.1 24 (lit≤ tt) (omega arith) in
@@ -33,7 +33,7 @@ returns c =
     let h5 = e5.1 10 (lit≤ tt) (omega arith) in
     let h6 = e6.1 6 (lit≤ tt) (omega arith) in
     let h7 = e7.1 5 (lit≤ tt) (omega arith) in (
-      sym (remainder_own 6 (lit≤ tt) 64 c.lowered7.result (lit≤ tt) h7) ∙ e7.0 ∙ e6.0 ∙ e5.0 ∙ e4.0 ∙ e3.0 ∙ e2.0 ∙ e1.0,
+      sym (remainder_own 6 (lit≤ tt) 64 c.lowered-4.result (lit≤ tt) h7) ∙ e7.0 ∙ e6.0 ∙ e5.0 ∙ e4.0 ∙ e3.0 ∙ e2.0 ∙ e1.0,
       h7,
     )
 

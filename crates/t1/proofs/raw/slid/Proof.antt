@@ -10,7 +10,7 @@ use Rattle.t1.proofs.raw.slid.Tie as tie
 
 returns : tie.Need-returns
 returns c =
-    let come = c.before.window2 in
+    let come = c.before.window-2 in
     let gone = c.before.before.window in
     let start = c.before.before.before.before in
     let a = start.args in
