@@ -8,5 +8,5 @@ pub again_spec : {M : Type 1} → statement M
 again_spec =
     tie.close
     (tie.spec (search rules) (search rules) (search rules) (search rules) (search rules) (search rules)
-    (λ c. let h = c.before.if1.true in rw le-leb c.signal.ensures)
-    (λ c. let h = c.if1.false in rw lt-leb))
+    (λ c. let h = c.before.if-k-j-le31.true in rw le-leb c.signal.ensures)
+    (λ c. let h = c.if-k-j-le31.false in rw lt-leb))

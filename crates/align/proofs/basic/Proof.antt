@@ -6,23 +6,23 @@ use Rattle.align.specs.Place.{basic}
 use Rattle.align.proofs.basic.Statement.{statement}
 use Rattle.align.proofs.basic.Tie as tie
 
-returns : tie.Need-returns
+returns : tie.Need-returns-then-bit-eq1
 unfolding basic
 returns c =
     let b = c.before.before in
     let w = b.before.before in
-    rw (sym w.is_IsWord.ensures ∙ b.before.if1.true, eq-eqb _ _ (sym b.bit.ensures.0 ∙ c.before.if2.true)) c.is-word2.ensures
+    rw (sym w.is_word.ensures ∙ b.before.if-is_word.true, eq-eqb _ _ (sym b.bit.ensures.0 ∙ c.before.if-bit-eq1.true)) c.is_word-then-bit-eq1.ensures
 
-returns_2 : tie.Need-returns-2
+returns_2 : tie.Need-returns-else-bit-eq1
 unfolding basic
 returns_2 c =
     let b = c.before in
     let w = b.before.before in
-    rw (sym w.is_IsWord.ensures ∙ b.before.if1.true, ← b.bit.ensures.0, ne_eqb _ _ c.if2.false)
+    rw (sym w.is_word.ensures ∙ b.before.if-is_word.true, ← b.bit.ensures.0, ne_eqb _ _ c.if-bit-eq1.false)
 
-returns_3 : tie.Need-returns-3
+returns_3 : tie.Need-returns-else-is_word
 unfolding basic
-returns_3 c = rw (sym c.before.is_IsWord.ensures ∙ c.if1.false) c.if1.false
+returns_3 c = rw (sym c.before.is_word.ensures ∙ c.if-is_word.false) c.if-is_word.false
 
 pub basic_spec : {M : Type 1} → statement M
 basic_spec =

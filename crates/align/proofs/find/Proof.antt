@@ -23,17 +23,17 @@ use Rattle.align.proofs.Laws.{none_basic, finds_at, wanted_basic}
 use Rattle.align.proofs.find.Statement.{statement}
 use Rattle.align.proofs.find.Tie as tie
 
-abbrev invariant_loop : tie.invariant_loop
+abbrev invariant_loop : tie.invariant-loop-k
 invariant_loop s bits end p first k₀ k = (k ≤ 19) × ((l : ℕ) → l < k → Pair s p l → ⊥)
 
-abbrev decreases_loop : tie.decreases_loop
+abbrev decreases_loop : tie.decreases-loop-k
 decreases_loop s bits end p first k₀ k = 19 - k
 
-abbrev invariant_search : tie.invariant_search
+abbrev invariant_search : tie.invariant-search
 invariant_search s bits end p₀ first₀ p first =
     (p ≤ bits) × ((q : ℕ) → q < p → Wanted s (ltb first bits) q → ⊥) × (first < bits → BasicFirst s first)
 
-abbrev decreases_search : tie.decreases_search
+abbrev decreases_search : tie.decreases-search
 decreases_search s bits end p₀ first₀ p first = bits - p
 
 -- no place before p is wanted, and what is noted below the end is the first place with basic alignment
@@ -91,39 +91,39 @@ module _ (s : List ℕ) (p first : ℕ) (before : (q : ℕ) → q < p → Wanted
           ]
 
 -- past the places that need no look
-onward_before : (c : tie.After-onward invariant_loop decreases_loop invariant_search decreases_search)
+onward_before : (c : tie.After-onward-p invariant_loop decreases_loop invariant_search decreases_search)
     → (let s = c.before.before.before.before.args.s.now in
-    (q : ℕ) → q < c.onward.result → Wanted s (ltb c.before.search.first (8 * length s)) q → ⊥)
+    (q : ℕ) → q < c.onward-p.result → Wanted s (ltb c.before.search.first (8 * length s)) q → ⊥)
 onward_before c q l w =
     elim (dec_lt q c.before.search.p) [
       | yes g ↦ c.before.search.invariant.1 q g w
-      | no g ↦ c.onward.ensures.2 q (omega arith) l w
+      | no g ↦ c.onward-p.ensures.2 q (omega arith) l w
     ]
 
-loop_again : tie.Need-loop-preserved invariant_loop decreases_loop invariant_search decreases_search
+loop_again : tie.Need-loop-k-preserved invariant_loop decreases_loop invariant_search decreases_search
 loop_again c =
     let l = c.before.before.before in
     let at = l.before.before.before.before.before in
     let s = at.before.before.before.before.args.s.now in
-    let k = l.loop.k in
-    (omega arith, below_more _ k l.loop.invariant.1 (denies (pair_holds s at.onward.result k) (sym c.before.pair.ensures ∙ c.if3.false)))
+    let k = l.loop-k.k in
+    (omega arith, below_more _ k l.loop-k.invariant.1 (denies (pair_holds s at.onward-p.result k) (sym c.before.pair.ensures ∙ c.if-pair.false)))
 
 -- past the place that was looked at
-past : (c : tie.Joined2 invariant_loop decreases_loop invariant_search decreases_search)
+past : (c : tie.Joined-basic invariant_loop decreases_loop invariant_search decreases_search)
     → (let at = c.before.before.before in
     let s = at.before.before.before.before.args.s.now in
-    ((q : ℕ) → q < at.onward.result + 1 → Wanted s (ltb c.if2.first (8 * length s)) q → ⊥)
-    × (c.if2.first < 8 * length s → BasicFirst s c.if2.first))
+    ((q : ℕ) → q < at.onward-p.result + 1 → Wanted s (ltb c.if-basic.first (8 * length s)) q → ⊥)
+    × (c.if-basic.first < 8 * length s → BasicFirst s c.if-basic.first))
 past c =
     let at = c.before.before.before in
     let s = at.before.before.before.before.args.s.now in
-    let p = at.onward.result in
+    let p = at.onward-p.result in
     let first = at.before.search.first in
     let noted = at.before.search.invariant.2 in
     let room : p + 16384 ≤ 8 * length s = omega arith in
     ⊎_elim
     (λ w.
-    let e : c.if2.first ≡ min first p = w.4 ∙ w.1.ensures in
+    let e : c.if-basic.first ≡ min first p = w.4 ∙ w.1.ensures in
     let basic = (basic_holds s p).0 (sym c.before.basic.ensures ∙ w.0.taken) in
     let unpaired : (k : ℕ) → Pair s p k → ⊥ = λ k h. w.2.inv.1 k (omega (arith, pair_below s p k h)) h in
     rw e (
@@ -133,31 +133,31 @@ past c =
     (λ w.
     let other = denies (basic_holds s p) (sym c.before.basic.ensures ∙ w.0.left) in
     rw w.1 (past_other s p first (onward_before at) noted room other, noted))
-    c.if2.branch
+    c.if-basic.branch
 
 search_again : tie.Need-search-preserved invariant_loop decreases_loop invariant_search decreases_search
 search_again c = (omega arith, (past c).0, (past c).1)
 
-returns : tie.Need-returns invariant_loop decreases_loop invariant_search decreases_search
+returns : tie.Need-returns-then-bits-p invariant_loop decreases_loop invariant_search decreases_search
 returns c =
     let at = c.before.before in
     let s = at.before.before.before.before.args.s.now in
     c.unpaired.ensures
-    ∙ nowhere s at.onward.result at.before.search.first (onward_before at) at.before.search.invariant.2 (omega arith)
+    ∙ nowhere s at.onward-p.result at.before.search.first (onward_before at) at.before.search.invariant.2 (omega arith)
 
-returns_2 : tie.Need-returns-2 invariant_loop decreases_loop invariant_search decreases_search
+returns_2 : tie.Need-returns-then-pair invariant_loop decreases_loop invariant_search decreases_search
 returns_2 c =
     let l = c.before.before.before in
     let basic = l.before.before.before in
     let at = basic.before.before in
     let s = at.before.before.before.before.args.s.now in
-    let p = at.onward.result in
-    let k = l.loop.k in
+    let p = at.onward-p.result in
+    let k = l.loop-k.k in
     let w : Stands s p k = record {
       room = omega arith;
-      basic = (basic_holds s p).0 (sym basic.basic.ensures ∙ l.before.before.if2.true);
-      pair = (pair_holds s p k).0 (sym c.before.pair.ensures ∙ c.if3.true);
-      least = l.loop.invariant.1;
+      basic = (basic_holds s p).0 (sym basic.basic.ensures ∙ l.before.before.if-basic.true);
+      pair = (pair_holds s p k).0 (sym c.before.pair.ensures ∙ c.if-pair.true);
+      least = l.loop-k.invariant.1;
     } in
     let none = none_before s p at.before.search.first (onward_before at) at.before.search.invariant.2 in
     sym ((finds_at s p k).1 (record { stands = w; before = λ q j h. none q h j }))
@@ -173,7 +173,7 @@ find_spec =
     (omega arith)
     (λ c κs. omega arith)
     (λ c. (omega arith, λ q l. absurd (omega arith), λ l. absurd (omega arith)))
-    (λ c κs. (omega arith, omega arith, c.before.octets-with-room.ensures))
+    (λ c κs. (omega arith, omega arith, c.before.octets_with_room-end.ensures))
     (omega arith)
     (search rules)
     (λ c κs. record { countable = omega arith; there = omega arith })

@@ -11,21 +11,21 @@ use Rattle.align.proofs.Rows.{put_more}
 use Rattle.align.proofs.marks.Statement.{statement}
 use Rattle.align.proofs.marks.Tie as tie
 
-abbrev invariant_loop : tie.invariant_loop
+abbrev invariant_loop : tie.invariant-loop-k
 invariant_loop s i m₀ k₀ m k = (k ≤ 32) × (length m ≡ 32) × Marks s i k m
 
-abbrev decreases_loop : tie.decreases_loop
+abbrev decreases_loop : tie.decreases-loop-k
 decreases_loop s i m₀ k₀ m k = 32 - k
 
-loop_again : tie.Need-loop-preserved invariant_loop decreases_loop
+loop_again : tie.Need-loop-k-preserved invariant_loop decreases_loop
 loop_again c =
     let l = c.before.before in
     let a = l.before.before.args in
-    let m = l.loop.m in
-    let k = l.loop.k in (
+    let m = l.loop-k.m in
+    let k = l.loop-k.k in (
       omega arith,
-      length-set m k _ ∙ l.loop.invariant.1,
-      put_more (λ j x. turned 8 x ≡ field a.s.now (8 * (a.i + 32 + 64 * j)) 64) m k _ (omega arith) l.loop.invariant.2 c.eight-octets.ensures,
+      length-set m k _ ∙ l.loop-k.invariant.1,
+      put_more (λ j x. turned 8 x ≡ field a.s.now (8 * (a.i + 32 + 64 * j)) 64) m k _ (omega arith) l.loop-k.invariant.2 c.eight_octets.ensures,
     )
 
 pub marks_spec : {M : Type 1} → statement M
@@ -42,4 +42,4 @@ marks_spec =
     (omega arith)
     (omega arith)
     loop_again
-    (λ c k h. c.before.loop.invariant.2 k (omega arith)))
+    (λ c k h. c.before.loop-k.invariant.2 k (omega arith)))

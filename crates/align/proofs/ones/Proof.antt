@@ -32,12 +32,12 @@ returns c o h b =
     let two = c.before in
     let one = two.before in
     let a = one.before.before.args in
-    let x = one.eight-octets.result in
-    let y = two.eight-octets2.result in
+    let x = one.eight_octets.result in
+    let y = two.eight_octets-2.result in
     let both : (j k : ℕ) → j + 1 + k ≡ 7 → bit_of 27 k ≡ 1 → One (turned 8 (bit_and x y)) (56 - o + k)
-    = both_one a.s.now a.i o x y h b one.eight-octets.ensures two.eight-octets2.ensures in
+    = both_one a.s.now a.i o x y h b one.eight_octets.ensures two.eight_octets-2.ensures in
     let e : 56 - o + 4 ≡ 60 - o = omega arith in
-    rw (c.turned.ensures, ← e)
+    rw (c.turned-both.ensures, ← e)
     (two_and_two (turned 8 (bit_and x y)) (56 - o) (omega arith) (both 2 4 refl refl) (both 3 3 refl refl) (both 5 1 refl refl) (both 6 0 refl refl))
 
 pub ones_spec : {M : Type 1} → statement M

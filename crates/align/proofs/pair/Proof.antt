@@ -5,32 +5,32 @@ use Rattle.align.specs.Place.{pair_at}
 use Rattle.align.proofs.pair.Statement.{statement}
 use Rattle.align.proofs.pair.Tie as tie
 
-returns : tie.Need-returns
+returns : tie.Need-returns-then-again
 unfolding pair_at
 returns c =
     let one = c.before in
-    let here = sym one.before.before.signal.ensures ∙ one.before.if1.true in
-    rw (here, sym one.again.ensures ∙ c.if2.true) c.if2.true
+    let here = sym one.before.before.signal.ensures ∙ one.before.if-signal.true in
+    rw (here, sym one.again.ensures ∙ c.if-again.true) c.if-again.true
 
-returns_2 : tie.Need-returns-2
+returns_2 : tie.Need-returns-then-again-2
 unfolding pair_at
 returns_2 c =
     let two = c.before in
     let one = two.before.before in
-    let here = sym one.before.before.signal.ensures ∙ one.before.if1.true in
-    rw (here, sym one.again.ensures ∙ two.before.if2.false, sym two.again2.ensures ∙ c.if3.true) c.if3.true
+    let here = sym one.before.before.signal.ensures ∙ one.before.if-signal.true in
+    rw (here, sym one.again.ensures ∙ two.before.if-again.false, sym two.again-else-again.ensures ∙ c.if-again-2.true) c.if-again-2.true
 
-returns_3 : tie.Need-returns-3
+returns_3 : tie.Need-returns-else-again-2
 unfolding pair_at
 returns_3 c =
     let two = c.before.before in
     let one = two.before.before in
-    let here = sym one.before.before.signal.ensures ∙ one.before.if1.true in
-    rw (here, sym one.again.ensures ∙ two.before.if2.false, sym two.again2.ensures ∙ c.before.if3.false) c.again3.ensures
+    let here = sym one.before.before.signal.ensures ∙ one.before.if-signal.true in
+    rw (here, sym one.again.ensures ∙ two.before.if-again.false, sym two.again-else-again.ensures ∙ c.before.if-again-2.false) c.again-else-again-2.ensures
 
-returns_4 : tie.Need-returns-4
+returns_4 : tie.Need-returns-else-signal
 unfolding pair_at
-returns_4 c = rw (sym c.before.signal.ensures ∙ c.if1.false) c.if1.false
+returns_4 c = rw (sym c.before.signal.ensures ∙ c.if-signal.false) c.if-signal.false
 
 pub pair_spec : {M : Type 1} → statement M
 pair_spec =

@@ -39,11 +39,11 @@ returns c o l h =
     let m = g.before.before in
     let a = m.before.before.args in
     let s = a.s.now in
-    let x = m.marks.result in
+    let x = m.marks-m.result in
     rw c.turned.ensures
     (turned_at p.pairs.result (63 - o) (omega arith)
-    ∙ pair_one s a.i o x (omega arith) m.marks.ensures g.signals.result p.pairs.result h.0
-    g.signals.ensures
+    ∙ pair_one s a.i o x (omega arith) m.marks-m.ensures g.signals-g.result p.pairs.result h.0
+    g.signals-g.ensures
     p.pairs.ensures
     h.1)
 

@@ -10,10 +10,10 @@ use Rattle.line.proofs.WindowLaws.{and_one, or_one_l, or_one_r}
 use Rattle.align.proofs.pairs.Statement.{statement}
 use Rattle.align.proofs.pairs.Tie as tie
 
-abbrev invariant_loop : tie.invariant_loop
+abbrev invariant_loop : tie.invariant-loop-k
 invariant_loop g r₀ k₀ r k = (k ≤ 19) × Pairs g k r
 
-abbrev decreases_loop : tie.decreases_loop
+abbrev decreases_loop : tie.decreases-loop-k
 decreases_loop g r₀ k₀ r k = 19 - k
 
 -- one of the three is enough
@@ -24,16 +24,16 @@ one_of f n (suc (suc zero)) h l e = or_one_l (bit_or (f 1) (f 2)) (f 3) n (or_on
 one_of f n (suc (suc (suc zero))) h l e = or_one_r (bit_or (f 1) (f 2)) (f 3) n e
 one_of f n (suc (suc (suc (suc j)))) h l e = absurd (omega arith)
 
-loop_again : tie.Need-loop-preserved invariant_loop decreases_loop
+loop_again : tie.Need-loop-k-preserved invariant_loop decreases_loop
 loop_again c =
     let l = c.before.before.before.before.before in
     let g = l.before.args.g.now in
-    let k = l.loop.k in
-    let r = l.loop.r in
+    let k = l.loop-k.k in
+    let r = l.loop-k.r in
     let more = bit_and (get_or g k 0) (bit_or (bit_or (get_or g (k + 8) 0) (get_or g (k + 16) 0)) (get_or g (k + 24) 0)) in (
       omega arith,
       below_more _ k
-          (λ i h n e j a b f. or_one_l r more n (l.loop.invariant.1 i h n e j a b f))
+          (λ i h n e j a b f. or_one_l r more n (l.loop-k.invariant.1 i h n e j a b f))
           (λ n e j a b f. or_one_r r more n (and_one _ _ n e (one_of (λ i. get_or g (k + 8 * i) 0) n j a b f))),
     )
 
@@ -47,4 +47,4 @@ pairs_spec =
     (omega arith) (omega arith) (omega arith)
     (omega arith) (omega arith) (omega arith) (omega arith)
     loop_again
-    (λ c k h. c.before.loop.invariant.1 k (omega arith)))
+    (λ c k h. c.before.loop-k.invariant.1 k (omega arith)))

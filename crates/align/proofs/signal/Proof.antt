@@ -19,10 +19,10 @@ use Rattle.align.proofs.signal.Tie as tie
 abbrev right : List ℕ → ℕ → ℕ → ℕ → Bool
 right s p k i = eqb (mark s p (k + i)) (get_or signal i 0)
 
-abbrev invariant_loop : tie.invariant_loop
+abbrev invariant_loop : tie.invariant-loop-i
 invariant_loop s p k i₀ i = (i ≤ 6) × (all i (right s p k) ≡ true)
 
-abbrev decreases_loop : tie.decreases_loop
+abbrev decreases_loop : tie.decreases-loop-i
 decreases_loop s p k i₀ i = 6 - i
 
 -- the constant of the source holds the signal, the lowest bit first
@@ -35,29 +35,29 @@ signal_bit (suc (suc (suc (suc zero)))) h = refl
 signal_bit (suc (suc (suc (suc (suc zero))))) h = refl
 signal_bit (suc (suc (suc (suc (suc (suc i)))))) h = omega arith
 
-returns : tie.Need-returns invariant_loop decreases_loop
+returns : tie.Need-returns-then-bit-i invariant_loop decreases_loop
 unfolding signal_at
 returns c =
     let l = c.before.before.before in
     let a = l.before.before.args in
-    let i = l.loop.i in
+    let i = l.loop-i.i in
     let t = right a.s.now a.p a.k in
-    sym (all_fails 6 t i (omega arith) (ne_eqb _ _ (λ e. c.if1.true (c.before.bit.ensures.0 ∙ e ∙ sym (signal_bit i (omega arith))))))
+    sym (all_fails 6 t i (omega arith) (ne_eqb _ _ (λ e. c.if-bit-i.true (c.before.bit.ensures.0 ∙ e ∙ sym (signal_bit i (omega arith))))))
 
-loop_again : tie.Need-loop-preserved invariant_loop decreases_loop
+loop_again : tie.Need-loop-i-preserved invariant_loop decreases_loop
 loop_again c =
     let l = c.before.before.before in
     let a = l.before.before.args in
-    let i = l.loop.i in
+    let i = l.loop-i.i in
     let t = right a.s.now a.p a.k in
-    (omega arith, all_more i t l.loop.invariant.1 (eq-eqb _ _ (sym c.before.bit.ensures.0 ∙ c.if1.false ∙ signal_bit i (omega arith))))
+    (omega arith, all_more i t l.loop-i.invariant.1 (eq-eqb _ _ (sym c.before.bit.ensures.0 ∙ c.if-bit-i.false ∙ signal_bit i (omega arith))))
 
-returns_2 : tie.Need-returns-2 invariant_loop decreases_loop
+returns_2 : tie.Need-returns invariant_loop decreases_loop
 unfolding signal_at
 returns_2 c =
     let l = c.before in
-    let e : l.loop.i ≡ 6 = omega arith in
-    sym (rw e at l.loop.invariant.1)
+    let e : l.loop-i.i ≡ 6 = omega arith in
+    sym (rw e at l.loop-i.invariant.1)
 
 pub signal_spec : {M : Type 1} → statement M
 unfolding all

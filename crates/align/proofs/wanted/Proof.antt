@@ -17,18 +17,18 @@ wanted_paired : (s : List ℕ) (known : Bool) (q : ℕ) → known ≡ true → W
 wanted_paired s known q e (inl w) = (w.0, w.1.pair)
 wanted_paired s known q e (inr w) = absurd (true≢false (sym e ∙ w.0))
 
-returns : tie.Need-returns
+returns : tie.Need-returns-then-not-known
 returns c o l h =
     let d = c.before.before in
     d.requires.1 o l (wanted_basic d.args.s.now d.args.known _ h)
 
-returns_2 : tie.Need-returns-2
+returns_2 : tie.Need-returns
 returns_2 c o l h =
     let d = c.before.before.before in
     let s = d.args.s.now in
     let known = d.args.known in
     and_one _ _ _ (d.requires.1 o l (wanted_basic s known _ h))
-    (c.paired.ensures o l (wanted_paired s known _ (not-false _ c.before.if1.false) h))
+    (c.paired.ensures o l (wanted_paired s known _ (not-false _ c.before.if-not-known.false) h))
 
 pub wanted_spec : {M : Type 1} → statement M
 wanted_spec = tie.close (tie.spec returns (search rules) returns_2)

@@ -15,16 +15,16 @@ returns c o h b =
     let two = c.before in
     let one = two.before in
     let a = one.before.before.args in
-    let x = one.eight-octets.result in
-    let y = two.eight-octets2.result in
+    let x = one.eight_octets.result in
+    let y = two.eight_octets-2.result in
     let z = turned 8 (bit_or x y) in
-    let few : z < 2 ^ 64 = omega (arith, c.turned.ensures) in
+    let few : z < 2 ^ 64 = omega (arith, c.turned-none.ensures) in
     let zero : (j k : ℕ) → j + 1 + k ≡ 7 → bit_of 27 k ≡ 0 → bit_of z (56 - o + k) ≡ 0
-    = any_zero a.s.now a.i o x y h b one.eight-octets.ensures two.eight-octets2.ensures in
+    = any_zero a.s.now a.i o x y h b one.eight_octets.ensures two.eight_octets-2.ensures in
     let moved : (k l : ℕ) → k + l ≡ 7 → bit_of z (56 - o + k) ≡ 0 → One ((2 ^ 64 - 1 - z) * 2 ^ l % 2 ^ 64) (63 - o)
     = λ k l e f. moved_one (2 ^ 64 - 1 - z) (56 - o + k) l (63 - o) 64 (omega arith) (omega arith)
     (not_one z (56 - o + k) 64 few (omega arith) f) in
-    rw c.turned.ensures
+    rw c.turned-none.ensures
     (and_one _ _ (63 - o) (and_one _ _ (63 - o) (moved 6 1 refl (zero 0 6 refl refl)) (moved 5 2 refl (zero 1 5 refl refl)))
     (moved 2 5 refl (zero 4 2 refl refl)))
 

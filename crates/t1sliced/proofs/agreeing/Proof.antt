@@ -28,13 +28,13 @@ returns c =
     let l = p.before in
     let r = l.before in
     let s = r.before.before.args.part.now in
-    let whole = plus_here r.raws.result l.framings.result p.plus-later.result p.plus-later.ensures (raw s) (lacking s) r.raws.ensures l.framings.ensures in
-    let six = times_both 4 2 p.plus-later.result x4.times-x4.result x2.times-x2.result x4.times-x4.ensures x2.times-x2.ensures in
-    let check = sliced_same _ (super_check s) x2.times-x2.result (λ o h. whole_check s o) (six (λ o. bit_xor (raw s o) (lacking s o)) (whole_lt s) whole) in
-    let carrying : List ℕ = f1.framing.result ∷ f2.framing2.result ∷ f3.framing3.result ∷ f4.framing4.result ∷ f5.framing5.result ∷ f6.framing6.result ∷ [] in
-    agree_exactly s x2.times-x2.result carrying check
-    (below_six (λ i. BitsFrom s (4825 + 772 * i) (get_or carrying i 0)) f1.framing.ensures f2.framing2.ensures f3.framing3.ensures
-    f4.framing4.ensures f5.framing5.ensures f6.framing6.ensures)
+    let whole = plus_here r.raws.result l.framings.result p.plus_later-whole.result p.plus_later-whole.ensures (raw s) (lacking s) r.raws.ensures l.framings.ensures in
+    let six = times_both 4 2 p.plus_later-whole.result x4.times_x4.result x2.times_x2-check.result x4.times_x4.ensures x2.times_x2-check.ensures in
+    let check = sliced_same _ (super_check s) x2.times_x2-check.result (λ o h. whole_check s o) (six (λ o. bit_xor (raw s o) (lacking s o)) (whole_lt s) whole) in
+    let carrying : List ℕ = f1.framing.result ∷ f2.framing-2.result ∷ f3.framing-3.result ∷ f4.framing-4.result ∷ f5.framing-5.result ∷ f6.framing-6.result ∷ [] in
+    agree_exactly s x2.times_x2-check.result carrying check
+    (below_six (λ i. BitsFrom s (4825 + 772 * i) (get_or carrying i 0)) f1.framing.ensures f2.framing-2.ensures f3.framing-3.ensures
+    f4.framing-4.ensures f5.framing-5.ensures f6.framing-6.ensures)
     c.complement.result c.complement.ensures
 
 pub agreeing_spec : {M : Type 1} → statement M

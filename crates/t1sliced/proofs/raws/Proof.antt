@@ -25,14 +25,14 @@ returns c =
     let start = p1.before.before in
     let s = start.args.part.now in
     let lt = change_lt s in
-    let h1 = summed_one (change s) lt p1.changes.result p1.changes.ensures in
-    let h2 = summed_twice (change s) lt 1 p1.changes.result t1.times-x.result p2.plus-later.result h1 t1.times-x.ensures p2.plus-later.ensures in
-    let h4 = summed_twice (change s) lt 2 p2.plus-later.result t2.times-x2.result p4.plus-later2.result h2 t2.times-x2.ensures p4.plus-later2.ensures in
-    let h8 = summed_twice (change s) lt 4 p4.plus-later2.result t4.times-x4.result p8.plus-later3.result h4 t4.times-x4.ensures p8.plus-later3.ensures in
-    let h16 = summed_twice (change s) lt 8 p8.plus-later3.result t8.times-x8.result p16.plus-later4.result h8 t8.times-x8.ensures p16.plus-later4.ensures in
-    let h32 = summed_twice (change s) lt 16 p16.plus-later4.result t16.times-x16.result p32.plus-later5.result h16 t16.times-x16.ensures p32.plus-later5.ensures in
-    let h64 = summed_twice (change s) lt 32 p32.plus-later5.result t32.times-x32.result c.plus-later6.result h32 t32.times-x32.ensures c.plus-later6.ensures in
-    sliced_same _ _ c.plus-later6.result (λ o h. raws_summed s o (omega arith)) h64
+    let h1 = summed_one (change s) lt p1.changes-over_1.result p1.changes-over_1.ensures in
+    let h2 = summed_twice (change s) lt 1 p1.changes-over_1.result t1.times_x.result p2.plus_later-over_2.result h1 t1.times_x.ensures p2.plus_later-over_2.ensures in
+    let h4 = summed_twice (change s) lt 2 p2.plus_later-over_2.result t2.times_x2.result p4.plus_later-over_4.result h2 t2.times_x2.ensures p4.plus_later-over_4.ensures in
+    let h8 = summed_twice (change s) lt 4 p4.plus_later-over_4.result t4.times_x4.result p8.plus_later-over_8.result h4 t4.times_x4.ensures p8.plus_later-over_8.ensures in
+    let h16 = summed_twice (change s) lt 8 p8.plus_later-over_8.result t8.times_x8.result p16.plus_later-over_16.result h8 t8.times_x8.ensures p16.plus_later-over_16.ensures in
+    let h32 = summed_twice (change s) lt 16 p16.plus_later-over_16.result t16.times_x16.result p32.plus_later-over_32.result h16 t16.times_x16.ensures p32.plus_later-over_32.ensures in
+    let h64 = summed_twice (change s) lt 32 p32.plus_later-over_32.result t32.times_x32.result c.plus_later.result h32 t32.times_x32.ensures c.plus_later.ensures in
+    sliced_same _ _ c.plus_later.result (λ o h. raws_summed s o (omega arith)) h64
 
 pub raws_spec : {M : Type 1} → statement M
 raws_spec =

@@ -9,4 +9,4 @@ times_x_spec =
     tie.close
     (tie.spec
     (search rules) (search rules) (search rules) (search rules) (search rules) (search rules) (search rules)
-    (λ c. times_once c.args.t1))
+    (λ c. times_once c.args.a))

@@ -6,8 +6,8 @@ use Rattle.t1sliced.proofs.times_x4.Tie as tie
 
 returns : tie.Need-returns
 returns c =
-    let first = c.before.times-x2 in
-    let second = c.times-x22 in
+    let first = c.before.times_x2 in
+    let second = c.times_x2-2 in
     times_both 2 2 c.before.before.args.a first.result second.result first.ensures second.ensures
 
 pub times_x4_spec : {M : Type 1} → statement M

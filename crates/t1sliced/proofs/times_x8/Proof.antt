@@ -6,8 +6,8 @@ use Rattle.t1sliced.proofs.times_x8.Tie as tie
 
 returns : tie.Need-returns
 returns c =
-    let first = c.before.times-x4 in
-    let second = c.times-x42 in
+    let first = c.before.times_x4 in
+    let second = c.times_x4-2 in
     times_both 4 4 c.before.before.args.a first.result second.result first.ensures second.ensures
 
 pub times_x8_spec : {M : Type 1} → statement M

@@ -6,7 +6,7 @@ use Rattle.t1sliced.proofs.with_frame.Tie as tie
 
 returns : tie.Need-returns
 returns c =
-    let four = c.before.times-x4 in
+    let four = c.before.times_x4-b in
     let a = c.before.before.args in
     frame_words a.bits c.complement.result a.a four.result four.ensures c.complement.ensures
 

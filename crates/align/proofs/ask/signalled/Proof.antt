@@ -13,37 +13,37 @@ use Rattle.align.proofs.Laws.{pair_holds, pair_below, no_k}
 use Rattle.align.proofs.ask.signalled.Statement.{statement}
 use Rattle.align.proofs.ask.signalled.Tie as tie
 
-abbrev invariant_loop : tie.invariant_loop
+abbrev invariant_loop : tie.invariant-loop-k
 invariant_loop s p k₀ k = (k ≤ 19) × (least k (pair_at s p) ≡ none)
 
-abbrev decreases_loop : tie.decreases_loop
+abbrev decreases_loop : tie.decreases-loop-k
 decreases_loop s p k₀ k = 19 - k
 
 none_of_32 : (s : List ℕ) (p : ℕ) → least 19 (pair_at s p) ≡ none → least 32 (pair_at s p) ≡ none
 none_of_32 s p e =
     (no_k s p).1 (λ k h. denies (pair_holds s p k) (least_none 19 (pair_at s p) e k (pair_below s p k h)) h)
 
-returns : tie.Need-returns invariant_loop decreases_loop
+returns : tie.Need-returns-then-pair invariant_loop decreases_loop
 returns c =
     let l = c.before.before.before in
     let a = l.before.before.args in
-    let k = l.loop.k in
-    let here = some_least 32 k (pair_at a.s.now a.p) (omega arith) l.loop.invariant.1 (sym c.before.pair.ensures ∙ c.if1.true) in
+    let k = l.loop-k.k in
+    let here = some_least 32 k (pair_at a.s.now a.p) (omega arith) l.loop-k.invariant.1 (sym c.before.pair.ensures ∙ c.if-pair.true) in
     sym (ap signalled here)
 
-loop_again : tie.Need-loop-preserved invariant_loop decreases_loop
+loop_again : tie.Need-loop-k-preserved invariant_loop decreases_loop
 loop_again c =
     let l = c.before.before.before in
     let a = l.before.before.args in
-    let k = l.loop.k in
-    (omega arith, least_more k (pair_at a.s.now a.p) l.loop.invariant.1 (sym c.before.pair.ensures ∙ c.if1.false))
+    let k = l.loop-k.k in
+    (omega arith, least_more k (pair_at a.s.now a.p) l.loop-k.invariant.1 (sym c.before.pair.ensures ∙ c.if-pair.false))
 
-returns_2 : tie.Need-returns-2 invariant_loop decreases_loop
+returns_2 : tie.Need-returns invariant_loop decreases_loop
 returns_2 c =
     let l = c.before in
     let a = l.before.before.args in
-    let e : l.loop.k ≡ 19 = omega arith in
-    sym (ap signalled (none_of_32 a.s.now a.p (rw e at l.loop.invariant.1)))
+    let e : l.loop-k.k ≡ 19 = omega arith in
+    sym (ap signalled (none_of_32 a.s.now a.p (rw e at l.loop-k.invariant.1)))
 
 pub signalled_spec : {M : Type 1} → statement M
 unfolding first
