@@ -28,7 +28,7 @@ returns_2 c o l h =
     let s = d.args.s.now in
     let known = d.args.known in
     and_one _ _ _ (d.requires.1 o l (wanted_basic s known _ h))
-    (c.paired.ensures o l (wanted_paired s known _ (not-false _ c.before.if-not-known.false) h))
+    (c.paired.ensures o l (wanted_paired s known _ c.before.if-not-known.false h))
 
 pub wanted_spec : {M : Type 1} → statement M
 wanted_spec = tie.close (tie.spec returns (search rules) returns_2)
