@@ -1,5 +1,6 @@
 // The search for the first place of an image that stands.
 #![tactic(auto)]
+
 pub mod ask;
 
 ghost use Rattle.std.specs.Prelude.{◌≡◌, ◌+◌, ◌-◌, ◌*◌, ◌^◌, ◌<◌, ◌≤◌, min, ltb, length};

@@ -1,11 +1,10 @@
 -- `wanted` meets its contract: what stands has basic alignment and a pair.
-use Prim.Native.Nat.{ℕ, ◌-◌}
+use Prim.Native.Nat.{ℕ}
 use mathlib.Core.Path.{◌≡◌, sym, ◌∙◌}
 use mathlib.Core.Bool.{Bool, true, true≢false}
 use mathlib.Core.List.{List}
 use mathlib.Core.Logic.{inl, inr}
 use borrow.Author.Rules.{rules}
-use borrow.Author.Tests.{not-false}
 use Rattle.align.specs.Window.{Paired, Wanted}
 use Rattle.line.proofs.WindowLaws.{and_one}
 use Rattle.align.proofs.Laws.{wanted_basic}
