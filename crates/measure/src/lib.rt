@@ -21,7 +21,7 @@ pub struct Tracked {
 
 // What is kept from frame to frame: wrong words in a row and wrong bits 2 in a row, each run its own; and the wrong words
 // so far, with their wrong bits.
-#[derive(Drop)]
+#[derive(Clone, Copy)]
 struct Tracking {
     wordrun: usize,
     bit2run: usize,

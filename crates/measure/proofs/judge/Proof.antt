@@ -6,9 +6,9 @@ use Rattle.measure.specs.Reading.{disagreeing}
 use Rattle.measure.proofs.judge.Statement.{statement}
 use Rattle.measure.proofs.judge.Tie as tie
 
-returns : tie.Need-returns
+returns : tie.Need-returns-then-n-eq0
 unfolding sum
-returns c = let a = c.before.before.args in sym (ap (disagreeing a.s.now a.p) c.if1.true)
+returns c = let a = c.before.before.args in sym (ap (disagreeing a.s.now a.p) c.if-n-eq0.true)
 
 pub judge_spec : {M : Type 1} → statement M
 judge_spec =
@@ -16,5 +16,5 @@ judge_spec =
     (tie.spec
     returns
     (search rules)
-    (λ c κs. (c.before.before.before.before.requires, c.before.remainders.ensures))
+    (λ c κs. (c.before.before.before.before.requires, c.before.remainders-table.ensures))
     (search rules))

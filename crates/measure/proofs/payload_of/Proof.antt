@@ -10,46 +10,46 @@ use Rattle.measure.proofs.Slots.{slots_none, part_more, part_rest, slots_kept}
 use Rattle.measure.proofs.payload_of.Statement.{statement}
 use Rattle.measure.proofs.payload_of.Tie as tie
 
-abbrev invariant_loop : tie.invariant_loop
+abbrev invariant_loop : tie.invariant-loop-m
 invariant_loop s q g out₀ m₀ out m =
     (m ≤ g) × (length out ≡ length out₀) × (take (496 * m) out ≡ slots s q (16 * m)) ×
     (drop (496 * m) out ≡ drop (496 * m) out₀)
 
-abbrev decreases_loop : tie.decreases_loop
+abbrev decreases_loop : tie.decreases-loop-m
 decreases_loop s q g out₀ m₀ out m = g - m
 
-put_multiframe_requires : tie.Need-put-multiframe-requires invariant_loop decreases_loop
+put_multiframe_requires : tie.Need-put_multiframe-requires invariant_loop decreases_loop
 put_multiframe_requires c κs =
     let l = c.before.before in
-    let m = l.loop.m in (
+    let m = l.loop-m.m in (
       record { countable = l.before.before.before.requires.0.countable; there = omega arith },
-      part_length (496 * m) (496 * m + 496) l.loop.out (omega arith) ∙ omega arith,
+      part_length (496 * m) (496 * m + 496) l.loop-m.out (omega arith) ∙ omega arith,
     )
 
-loop_again : tie.Need-loop-preserved invariant_loop decreases_loop
+loop_again : tie.Need-loop-m-preserved invariant_loop decreases_loop
 loop_again c =
     let w = c.before.before in
     let l = w.before.before.before in
     let a = l.before.before.before.args in
-    let m = l.loop.m in
-    let o = l.loop.out in
-    let y = w.put-multiframe.new.1.1.0 in (
+    let m = l.loop-m.m in
+    let o = l.loop-m.out in
+    let y = w.put_multiframe.new.out in (
       omega arith,
-      c.before.out.given.1 ∙ l.loop.invariant.1,
+      c.before.out-1.given.1 ∙ l.loop-m.invariant.1,
       part_more a.s.now a.q (16 * m) 16 (496 * m) (496 * m + 496) o y (omega arith) refl (omega arith)
-          w.put-multiframe.ensures
-          (496 * (m + 1)) (16 * (m + 1)) (omega arith) (omega arith) l.loop.invariant.2,
+          w.put_multiframe.ensures
+          (496 * (m + 1)) (16 * (m + 1)) (omega arith) (omega arith) l.loop-m.invariant.2,
       part_rest a.s.now a.q (16 * m) 16 (496 * m) (496 * m + 496) o y (omega arith) refl (omega arith)
-          w.put-multiframe.ensures
-          (496 * (m + 1)) a.out.now (omega arith) l.loop.invariant.3,
+          w.put_multiframe.ensures
+          (496 * (m + 1)) a.out.now (omega arith) l.loop-m.invariant.3,
     )
 
 returns : tie.Need-returns invariant_loop decreases_loop
 returns c =
     let l = c.before in
     let a = l.before.before.before.args in
-    slots_kept a.s.now l.loop.out a.out.now a.q l.loop.m a.g (omega arith) l.loop.invariant.2
-    l.loop.invariant.3
+    slots_kept a.s.now l.loop-m.out a.out.now a.q l.loop-m.m a.g (omega arith) l.loop-m.invariant.2
+    l.loop-m.invariant.3
 
 pub payload_of_spec : {M : Type 1} → statement M
 payload_of_spec =

@@ -14,32 +14,32 @@ use Rattle.measure.proofs.Slots.{slot0_more}
 use Rattle.measure.proofs.slot0_of.Statement.{statement}
 use Rattle.measure.proofs.slot0_of.Tie as tie
 
-abbrev invariant_loop : tie.invariant_loop
+abbrev invariant_loop : tie.invariant-loop-f
 invariant_loop s q g out₀ i o f₀ f-end out f = (f ≤ 16 * g) × (length out ≡ length out₀) × (out ≡ slots0 s q f ++ drop f out₀)
 
-abbrev decreases_loop : tie.decreases_loop
+abbrev decreases_loop : tie.decreases-loop-f
 decreases_loop s q g out₀ i o f₀ f-end out f = 16 * g - f
 
-loop_again : tie.Need-loop-preserved invariant_loop decreases_loop
+loop_again : tie.Need-loop-f-preserved invariant_loop decreases_loop
 loop_again c =
     let l = c.before.before in
     let a = l.before.before.before.args in
-    let f = l.loop.f in
+    let f = l.loop-f.f in
     let at : 8 * (a.q / 8 + 32 * f) + bit_and a.q 7 ≡ a.q + 256 * f + 8 * 0 = omega (arith, place_in a.q) in (
       omega arith,
-      simp length-set l.loop.invariant.1,
-      slot0_more a.s.now a.out.now l.loop.out a.q f c.octet-in.result
-          (omega arith) (c.octet-in.ensures ∙ ap (octet_at a.s.now) at) l.loop.invariant.2,
+      simp length-set l.loop-f.invariant.1,
+      slot0_more a.s.now a.out.now l.loop-f.out a.q f c.octet_in-v.result
+          (omega arith) (c.octet_in-v.ensures ∙ ap (octet_at a.s.now) at) l.loop-f.invariant.2,
     )
 
 returns : tie.Need-returns invariant_loop decreases_loop
 returns c =
     let l = c.before in
     let a = l.before.before.before.args in
-    let e : l.loop.f ≡ 16 * a.g = omega arith in
-    l.loop.invariant.2 ∙ ap (λ f. slots0 a.s.now a.q f ++ drop f a.out.now) e
+    let e : l.loop-f.f ≡ 16 * a.g = omega arith in
+    l.loop-f.invariant.2 ∙ ap (λ f. slots0 a.s.now a.q f ++ drop f a.out.now) e
 
-octet_in_requires : tie.Need-octet-in-requires invariant_loop decreases_loop
+octet_in_requires : tie.Need-octet_in-v-requires invariant_loop decreases_loop
 octet_in_requires c κs =
     let q = c.before.before.before.before.args.q in (omega (arith, place_in q), omega (arith, and_le_r q 7))
 

@@ -10,118 +10,118 @@ use Rattle.measure.proofs.Tracks.{lost_by_word, word_passed, lost_by_bit2, bit2_
 use Rattle.measure.proofs.track.Statement.{statement}
 use Rattle.measure.proofs.track.Tie as tie
 
-abbrev invariant_loop2 : tie.invariant_loop2
+abbrev invariant_loop2 : tie.invariant-loop-i
 invariant_loop2 s q h m t₀ words wordbits g i₀ i-end t i = (8 * g ≤ i) × (i ≤ i-end) × Passed s q h i i t
 
-abbrev decreases_loop2 : tie.decreases_loop2
+abbrev decreases_loop2 : tie.decreases-loop-i
 decreases_loop2 s q h m t₀ words wordbits g i₀ i-end t i = i-end - i
 
-abbrev invariant_loop : tie.invariant_loop
+abbrev invariant_loop : tie.invariant-loop-g
 invariant_loop s q h m t₀ words₀ wordbits₀ g₀ t words wordbits g =
     (h ≤ g) × (g ≤ m) × Passed s q h (8 * g) (8 * g) t
     × (words ≡ word_errors s (q + 4096 * h) (g - h)) × (wordbits ≡ word_bits s (q + 4096 * h) (g - h))
 
-abbrev decreases_loop : tie.decreases_loop
+abbrev decreases_loop : tie.decreases-loop-g
 decreases_loop s q h m t₀ words₀ wordbits₀ g₀ t words wordbits g = m - g
 
-loop_holds : tie.Need-loop-init invariant_loop2 decreases_loop2 invariant_loop decreases_loop
+loop_holds : tie.Need-loop-g-init invariant_loop2 decreases_loop2 invariant_loop decreases_loop
 loop_holds c =
     let a = c.before.before.args in
-    let r = c.after-multiframes.ensures in
-    let p = none_passed a.s.now a.q a.h c.after-multiframes.result r in
+    let r = c.after_multiframes-t.ensures in
+    let p = none_passed a.s.now a.q a.h c.after_multiframes-t.result r in
     let (n, bits) = multiframes_passed p a.h refl in
     (omega arith, omega arith, p, sym r.words ∙ n, sym r.wordbits ∙ bits)
 
-wrong_bits_requires : tie.Need-wrong-bits-requires invariant_loop2 decreases_loop2 invariant_loop decreases_loop
+wrong_bits_requires : tie.Need-wrong_bits-requires invariant_loop2 decreases_loop2 invariant_loop decreases_loop
 wrong_bits_requires c κs =
     record { countable = c.before.before.before.before.before.before.requires.0.countable; there = omega arith }
 
-after_word_requires : tie.Need-after-word-requires invariant_loop2 decreases_loop2 invariant_loop decreases_loop
+after_word_requires : tie.Need-after_word-t-requires invariant_loop2 decreases_loop2 invariant_loop decreases_loop
 after_word_requires c κs =
-    let p = c.before.before.loop2.invariant.2 in (
+    let p = c.before.before.loop-i.invariant.2 in (
       short p.words_run,
       short p.bits2_run,
       omega (arith, count_below p),
       omega (arith, bits_below p),
-      c.wrong_bits_lem.ensures.1,
+      c.wrong_bits.ensures.1,
     )
 
-returns : tie.Need-returns invariant_loop2 decreases_loop2 invariant_loop decreases_loop
+returns : tie.Need-returns-then-t-eq3 invariant_loop2 decreases_loop2 invariant_loop decreases_loop
 returns c =
     let w = c.before.before in
     let l2 = w.before.before.before in
     let l = l2.before.before in
     let a = l.before.before.before.args in
-    let i = l2.loop2.i in
-    let e = lost_by_word l2.loop2.invariant.2 w.before.wrong_bits_lem.ensures.0 w.after-word.ensures c.if1.true a.m (omega arith) in
+    let i = l2.loop-i.i in
+    let e = lost_by_word l2.loop-i.invariant.2 w.before.wrong_bits.ensures.0 w.after_word-t.ensures c.if-t-eq3.true a.m (omega arith) in
     let even : 1 ≡ 1 + 2 * i % 2 = omega arith in
-    let held : l.loop.g ≡ 2 * i / 16 = omega arith in (
+    let held : l.loop-g.g ≡ 2 * i / 16 = omega arith in (
       sym (ap lost_at e),
       even ∙ sym (ap cause_of e),
       held ∙ sym (ap (λ o. used_of o a.m) e),
-      l.loop.invariant.0,
-      l.loop.invariant.1,
-      l.loop.invariant.3,
-      l.loop.invariant.4,
+      l.loop-g.invariant.0,
+      l.loop-g.invariant.1,
+      l.loop-g.invariant.3,
+      l.loop-g.invariant.4,
     )
 
 -- the word of a frame has gone by, and is no loss
-gone : (c : tie.Else1 invariant_loop2 decreases_loop2 invariant_loop decreases_loop)
+gone : (c : tie.Else-t-eq3 invariant_loop2 decreases_loop2 invariant_loop decreases_loop)
     → (let w = c.before.before in
     let l2 = w.before.before.before in
     let a = l2.before.before.before.before.before.args in
-    Passed a.s.now a.q a.h (l2.loop2.i + 1) l2.loop2.i w.after-word.result)
+    Passed a.s.now a.q a.h (l2.loop-i.i + 1) l2.loop-i.i w.after_word-t.result)
 gone c =
     let w = c.before.before in
-    word_passed w.before.before.before.loop2.invariant.2 w.before.wrong_bits_lem.ensures.0 w.after-word.ensures c.if1.false
+    word_passed w.before.before.before.loop-i.invariant.2 w.before.wrong_bits.ensures.0 w.after_word-t.ensures c.if-t-eq3.false
 
 -- the frames are few
-few : (c : tie.At-loop2 invariant_loop2 decreases_loop2 invariant_loop decreases_loop) → c.loop2.i < 2 ^ 60
+few : (c : tie.At-loop-i invariant_loop2 decreases_loop2 invariant_loop decreases_loop) → c.loop-i.i < 2 ^ 60
 few c =
     let d = c.before.before.before.before.before in
     omega (arith, d.requires.0.countable, d.requires.0.there)
 
-returns_2 : tie.Need-returns-2 invariant_loop2 decreases_loop2 invariant_loop decreases_loop
+returns_2 : tie.Need-returns-then-t-eq3-2 invariant_loop2 decreases_loop2 invariant_loop decreases_loop
 returns_2 c =
     let w = c.before.before in
     let d = w.before.before in
     let l2 = d.before.before.before.before.before in
     let l = l2.before.before in
     let a = l.before.before.before.args in
-    let i = l2.loop2.i in
-    let e = lost_by_bit2 (gone d) w.before.bit.ensures.0 w.after-bit2.ensures c.if2.true a.m (omega arith) (omega arith) in
+    let i = l2.loop-i.i in
+    let e = lost_by_bit2 (gone d) w.before.bit.ensures.0 w.after_bit2-t.ensures c.if-t-eq3-2.true a.m (omega arith) (omega arith) in
     let odd : 2 ≡ 1 + (2 * i + 1) % 2 = omega arith in
-    let held : l.loop.g ≡ (2 * i + 1) / 16 = omega arith in (
+    let held : l.loop-g.g ≡ (2 * i + 1) / 16 = omega arith in (
       sym (ap lost_at e),
       odd ∙ sym (ap cause_of e),
       held ∙ sym (ap (λ o. used_of o a.m) e),
-      l.loop.invariant.0,
-      l.loop.invariant.1,
-      l.loop.invariant.3,
-      l.loop.invariant.4,
+      l.loop-g.invariant.0,
+      l.loop-g.invariant.1,
+      l.loop-g.invariant.3,
+      l.loop-g.invariant.4,
     )
 
-loop2_again : tie.Need-loop2-preserved invariant_loop2 decreases_loop2 invariant_loop decreases_loop
+loop2_again : tie.Need-loop-i-preserved invariant_loop2 decreases_loop2 invariant_loop decreases_loop
 loop2_again c =
     let w = c.before.before in
-    (omega arith, omega arith, bit2_passed (gone w.before.before) w.before.bit.ensures.0 w.after-bit2.ensures c.if2.false)
+    (omega arith, omega arith, bit2_passed (gone w.before.before) w.before.bit.ensures.0 w.after_bit2-t.ensures c.if-t-eq3-2.false)
 
-loop_again : tie.Need-loop-preserved invariant_loop2 decreases_loop2 invariant_loop decreases_loop
+loop_again : tie.Need-loop-g-preserved invariant_loop2 decreases_loop2 invariant_loop decreases_loop
 loop_again c =
-    let v = c.before.loop2 in
+    let v = c.before.loop-i in
     let l = c.before.before.before in
     let a = l.before.before.before.args in
-    let e : v.i ≡ 8 * (l.loop.g + 1) = omega arith in
-    let (n, bits) = multiframes_passed v.invariant.2 (l.loop.g + 1) e in
+    let e : v.i ≡ 8 * (l.loop-g.g + 1) = omega arith in
+    let (n, bits) = multiframes_passed v.invariant.2 (l.loop-g.g + 1) e in
     (omega arith, omega arith, subst (λ i. Passed a.s.now a.q a.h i i v.t) e v.invariant.2, n, bits)
 
-returns_3 : tie.Need-returns-3 invariant_loop2 decreases_loop2 invariant_loop decreases_loop
+returns_3 : tie.Need-returns invariant_loop2 decreases_loop2 invariant_loop decreases_loop
 returns_3 c =
     let l = c.before in
     let a = l.before.before.before.args in
-    let i = l.loop.invariant in
+    let i = l.loop-g.invariant in
     let e = none_yet i.2 a.m (omega arith) (omega arith) (omega arith) in
-    let d : l.loop.g ≡ a.m = omega arith in (
+    let d : l.loop-g.g ≡ a.m = omega arith in (
       sym (ap lost_at e),
       sym (ap cause_of e),
       sym (ap (λ o. used_of o a.m) e),
@@ -140,7 +140,7 @@ track_spec =
     (omega arith)
     (omega arith)
     (omega arith)
-    (λ c. (omega arith, omega arith, c.before.loop.invariant.2))
+    (λ c. (omega arith, omega arith, c.before.loop-g.invariant.2))
     (omega arith)
     (omega arith)
     (omega arith)

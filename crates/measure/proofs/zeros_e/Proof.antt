@@ -7,7 +7,7 @@ use Rattle.measure.proofs.zeros_e.Statement.{statement}
 use Rattle.measure.proofs.zeros_e.Tie as tie
 
 returns : tie.Need-returns
-returns c = (ap₂ (λ a b. (1 - a) + (1 - b)) c.before.bit.ensures.0 c.bit2.ensures.0, omega arith)
+returns c = (ap₂ (λ a b. (1 - a) + (1 - b)) c.before.bit-a.ensures.0 c.bit-b.ensures.0, omega arith)
 
 pub zeros_e_spec : {M : Type 1} → statement M
 zeros_e_spec =
