@@ -12,7 +12,7 @@ ghost use Rattle.align.specs.Stands.{Basic};
 ghost use Rattle.align.specs.Window.{Holds, NoneFrom, Marks, SignalIn, Signals, Pairs, Paired, Wanted};
 
 // the place that stands, with its least k; where none does, the first with basic alignment, if there is one
-#[derive(Drop)]
+#[derive(Clone, Copy)]
 pub enum Found {
     At { place: usize, k: usize },
     BasicAt { place: usize },
@@ -21,7 +21,7 @@ pub enum Found {
 
 // what is said of a place: it stands, with its least k; or the first condition that fails, of a wrong word with the
 // place of its first wrong bit; or the call is refused
-#[derive(Drop)]
+#[derive(Clone, Copy)]
 pub enum Why {
     NoneFails { k: usize },
     FirstWord { bit: usize },
@@ -32,7 +32,7 @@ pub enum Why {
 }
 
 // a window of the search: its octet, and its places that have basic alignment
-#[derive(Drop)]
+#[derive(Clone, Copy)]
 struct Hit {
     octet: usize,
     places: u64,

@@ -17,7 +17,7 @@ use measure::Tracked;
 
 // What a look at an image tells: the line then, how many octets of the image are let go, how many multiframes leave, and
 // from which bit on.
-#[derive(Drop)]
+#[derive(Clone, Copy)]
 struct Seen {
     line: Line,
     gone: usize,
@@ -26,7 +26,7 @@ struct Seen {
 }
 
 // What multiframes that leave add.
-#[derive(Drop)]
+#[derive(Clone, Copy)]
 struct Gain {
     multiframes: usize,
     words: usize,
@@ -37,7 +37,7 @@ struct Gain {
 
 // What is answered to a chunk: 0, or 4 where an output lacks room; the line then, how many octets of the window are
 // filled, and how many multiframes have left.
-#[derive(Drop)]
+#[derive(Clone, Copy)]
 pub struct Took {
     pub number: u64,
     pub line: Line,

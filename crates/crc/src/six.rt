@@ -8,7 +8,7 @@ ghost use Rattle.crc.specs.Fold.{Lowers};
 ghost use Rattle.crc.specs.Word.{remainder, wide_remainder};
 
 // a number of two words, which stands for its remainder
-#[derive(Drop)]
+#[derive(Clone, Copy)]
 pub struct Wide {
     pub high: u64,
     pub low: u64,

@@ -3,7 +3,7 @@ use Rattle.std.specs.Prelude.{ℕ, Bool, true, false, ◌&&◌, ◌||◌, List, 
 use Rattle.base.specs.Choice.{if◌then◌else◌}
 use Rattle.exchange.specs.declared.State.{State}
 use Rattle.exchange.specs.Mapping.{map_refusal, mapped}
-use Rattle.exchange.specs.Machine.{kind_of, between, host_refusal, hosted, keyed, crossed}
+use Rattle.exchange.specs.Machine.{kind_of, host_refusal, hosted, keyed, crossed}
 
 -- a host record; the key, to a position; a multiframe boundary; a payload and the output that is lent for it
 pub data Call : Type 0 where

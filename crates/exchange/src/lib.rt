@@ -1,5 +1,6 @@
 // The map and the key.
 #![tactic(auto)]
+
 ghost use Rattle.std.specs.Prelude.{◌≡◌, ◌∷◌, ℕ, ◌<◌, ◌≤◌, length, get_or};
 ghost use Rattle.base.specs.Tab.{tab};
 ghost use Rattle.exchange.specs.Mapping.{entry_used, entry_at, mapped_payload, Mapped};
@@ -9,7 +10,7 @@ ghost use Rattle.exchange.specs.Machine.{hosted};
 
 // the flag, a live map, perhaps a staged one, perhaps a waiting one; a map has the entry of output slot j at its index
 // j
-#[derive(Drop)]
+#[derive(Clone, Copy)]
 pub struct State {
     pub flag: bool,
     pub staging: bool,

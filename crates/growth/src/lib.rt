@@ -7,7 +7,7 @@ use align::Found;
 
 // What is known of a line so far, beside its last octets: how many octets were let go, what was found, the multiframes
 // that have left, the frame of loss or 0, and what was counted.
-#[derive(Drop)]
+#[derive(Clone, Copy)]
 pub struct Line {
     pub before: usize,
     pub found: Found,

@@ -10,7 +10,7 @@ ghost use Rattle.measure.specs.Track.{Runs};
 ghost use Rattle.measure.specs.Reading.{word_errors, word_bits, compared, disagreeing, zeros_e, far_end};
 
 // What the alignment words and bits 2 tell.
-#[derive(Drop)]
+#[derive(Clone, Copy)]
 pub struct Tracked {
     pub lost: usize,
     pub cause: u64,

@@ -6,7 +6,7 @@ ghost use Rattle.align.specs.Place.{first_standing};
 ghost use Rattle.read.specs.Entry.{Read, GoodLength, refuse, nowhere, located};
 
 // What is read: the number is 0, or the refusal's with zeros beside it; with 15 the place is that of `Found::BasicAt`.
-#[derive(Drop)]
+#[derive(Clone, Copy)]
 pub struct Reading {
     pub number: u64,
     pub place: usize,
@@ -24,7 +24,7 @@ pub struct Reading {
 
 // Where an image is read from, and how far: the number is 0, or the refusal's with zeros beside it; with 15 the place is
 // that of `Found::BasicAt`.
-#[derive(Drop)]
+#[derive(Clone, Copy)]
 pub struct Located {
     pub number: u64,
     pub place: usize,

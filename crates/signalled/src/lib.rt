@@ -1,5 +1,6 @@
 // Multiframes written with signalling in slot 16.
 #![tactic(auto)]
+
 ghost use Rattle.std.specs.Prelude.{◌≡◌, [], ◌∷◌, ◌++◌, ◌*◌, ◌≤◌, ◌<◌, length, drop, set};
 ghost use Rattle.crc.specs.Fold.{remainders};
 ghost use Rattle.e1.specs.Block.{block_check};

@@ -8,7 +8,7 @@ ghost use Rattle.signals.specs.Follow.{begins, followed, channels};
 
 // What is answered: the number is 0, or the refusal's with zeros beside it. `starts` has the frame at which each
 // signalling multiframe begins that is read, and zeros behind them.
-#[derive(Drop)]
+#[derive(Clone, Copy)]
 pub struct Signalling {
     pub number: u64,
     pub multiframes: usize,
@@ -23,7 +23,7 @@ pub struct Signalling {
 }
 
 // What is found in the octets of slot 16.
-#[derive(Drop)]
+#[derive(Clone, Copy)]
 struct Followed {
     multiframes: usize,
     starts: [usize; 16],

@@ -11,7 +11,7 @@ use growth::Line;
 use read::Reading;
 
 // The numbers of a stream: whether it has ended, how many octets of the window are filled, and what is known of the line.
-#[derive(Drop)]
+#[derive(Clone, Copy)]
 pub struct Stream {
     pub ended: bool,
     pub fill: usize,
@@ -19,7 +19,7 @@ pub struct Stream {
 }
 
 // What a chunk is answered: the number is 0, or the refusal's with the stream as it was; and how many multiframes left.
-#[derive(Drop)]
+#[derive(Clone, Copy)]
 pub struct Fed {
     pub stream: Stream,
     pub number: u64,
@@ -27,7 +27,7 @@ pub struct Fed {
 }
 
 // What an end is answered: the stream then, and the reading of the joined line.
-#[derive(Drop)]
+#[derive(Clone, Copy)]
 pub struct Ended {
     pub stream: Stream,
     pub reading: Reading,

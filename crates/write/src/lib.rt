@@ -1,5 +1,6 @@
 // Writing multiframes of an E1 line.
 #![tactic(auto)]
+
 ghost use Rattle.std.specs.Prelude.{◌≡◌, cond, ◌++◌, ◌-◌, ◌*◌, ◌^◌, ◌<◌, ◌≤◌, eqb, length, get_or, drop};
 ghost use Rattle.base.specs.Tab.{tab};
 ghost use Rattle.crc.specs.Fold.{remainders};

@@ -9,15 +9,15 @@ use Rattle.exchange.specs.Mapping.{entry_at}
 use Rattle.exchange.proofs.entries.Statement.{statement}
 use Rattle.exchange.proofs.entries.Tie as tie
 
-abbrev invariant_loop : tie.invariant_loop
+abbrev invariant_loop : tie.invariant-loop-j
 invariant_loop map entries₀ j₀ entries j = (j ≤ 32) × (length entries ≡ 32) × (take j entries ≡ tab j (entry_at map))
 
-abbrev decreases_loop : tie.decreases_loop
+abbrev decreases_loop : tie.decreases-loop-j
 decreases_loop map entries₀ j₀ entries j = 32 - j
 
-loop_again : tie.Need-loop-preserved invariant_loop decreases_loop
+loop_again : tie.Need-loop-j-preserved invariant_loop decreases_loop
 loop_again c =
-    let l = c.before.before.before.loop in
+    let l = c.before.before.before.loop-j in
     let map = c.before.before.before.before.args.map.now in (
       omega arith,
       simp length-set l.invariant.1,
@@ -26,7 +26,7 @@ loop_again c =
 
 returns : tie.Need-returns invariant_loop decreases_loop
 returns c =
-    let l = c.before.loop in
+    let l = c.before.loop-j in
     let e : l.j ≡ 32 = omega arith in
     tab_fill l.entries 32 (entry_at c.before.before.args.map.now) (omega arith) (rw e at l.invariant.2)
 

@@ -9,9 +9,9 @@ use Rattle.exchange.proofs.Laws.{accepted_passed, slot_named}
 use Rattle.exchange.proofs.host_after.Statement.{statement}
 use Rattle.exchange.proofs.host_after.Tie as tie
 
-slot : (c : tie.Then1)
+slot : (c : tie.Then-kind-eq1)
     → (1 ≤ a_of c.before.before.before.args.octets.now) × (a_of c.before.before.before.args.octets.now ≤ 31)
-slot c = slot_named _ _ c.before.before.before.requires (rw (eq-eqb _ _ c.if1.true))
+slot c = slot_named _ _ c.before.before.before.requires (rw (eq-eqb _ _ c.if-kind-eq1.true))
 
 pub host_after_spec : {M : Type 1} → statement M
 unfolding host_after
@@ -23,11 +23,11 @@ host_after_spec =
     (λ c. omega (arith, slot c.before))
     (λ c. let f = (accepted_passed _ _ c.before.before.before.before.before.requires).four in search rules)
     (λ c κs. omega (arith, slot c.before.before))
-    (λ c. c.stage.ensures ∙ rw (eq-eqb _ _ c.before.before.before.if1.true) refl)
+    (λ c. c.stage.ensures ∙ rw (eq-eqb _ _ c.before.before.before.if-kind-eq1.true) refl)
     (search rules)
-    (λ c. c.commit.ensures ∙ rw (ne_eqb _ _ c.before.before.if1.false, eq-eqb _ _ c.before.if2.true))
+    (λ c. c.commit.ensures ∙ rw (ne_eqb _ _ c.before.before.if-kind-eq1.false, eq-eqb _ _ c.before.if-kind-eq2.true))
     (search rules)
     (λ c.
     c.discard.ensures
-    ∙ rw (ne_eqb _ _ c.before.before.before.if1.false, ne_eqb _ _ c.before.before.if2.false, eq-eqb _ _ c.before.if3.true))
-    (λ c. rw (ne_eqb _ _ c.before.before.if1.false, ne_eqb _ _ c.before.if2.false, ne_eqb _ _ c.if3.false)))
+    ∙ rw (ne_eqb _ _ c.before.before.before.if-kind-eq1.false, ne_eqb _ _ c.before.before.if-kind-eq2.false, eq-eqb _ _ c.before.if-kind-eq4.true))
+    (λ c. rw (ne_eqb _ _ c.before.before.if-kind-eq1.false, ne_eqb _ _ c.before.if-kind-eq2.false, ne_eqb _ _ c.if-kind-eq4.false)))

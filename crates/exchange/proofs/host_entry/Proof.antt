@@ -9,9 +9,9 @@ use Rattle.exchange.proofs.Laws.{accepted_passed, slot_named}
 use Rattle.exchange.proofs.host_entry.Statement.{statement}
 use Rattle.exchange.proofs.host_entry.Tie as tie
 
-slot : (c : tie.Then1)
+slot : (c : tie.Then-octets-eq3)
     → (1 ≤ a_of c.before.before.before.args.octets.now) × (a_of c.before.before.before.args.octets.now ≤ 31)
-slot c = slot_named _ _ c.before.before.before.requires (rw c.if1.true)
+slot c = slot_named _ _ c.before.before.before.requires (rw c.if-octets-eq3.true)
 
 pub host_entry_spec : {M : Type 1} → statement M
 unfolding host_entry
@@ -23,5 +23,5 @@ host_entry_spec =
     (λ c. omega (arith, slot c.before))
     (λ c. omega (arith, slot c.before))
     (search rules)
-    (λ c. c.used.ensures ∙ rw (eq-eqb _ _ c.before.before.before.if1.true))
-    (λ c. rw (ne_eqb _ _ c.if1.false)))
+    (λ c. c.used.ensures ∙ rw (eq-eqb _ _ c.before.before.before.if-octets-eq3.true))
+    (λ c. rw (ne_eqb _ _ c.if-octets-eq3.false)))

@@ -2,7 +2,7 @@
 use mathlib.Core.Path.{◌≡◌, sym, ◌∙◌}
 use mathlib.Core.Bool.{true, false}
 use borrow.Author.Rules.{rules}
-use borrow.Author.Tests.{eq-eqb, ne_eqb, not-true, not-false}
+use borrow.Author.Tests.{eq-eqb, ne_eqb}
 use lib.Dec.{eqb}
 use lib.ListN.{length}
 use Rattle.exchange.specs.Machine.{kind_of, a_of, b_of, between, outside, locked, host_refusal}
@@ -10,63 +10,63 @@ use Rattle.exchange.proofs.host_refusal.Statement.{statement}
 use Rattle.exchange.proofs.host_refusal.Tie as tie
 
 -- behind each test: the one before it, and what is passed
-abbrev one : tie.Else2 → tie.Else1
+abbrev one : tie.Else-not-is_between → tie.Else-octets-ne4
 one c = c.before.before.before
 
-abbrev two : tie.Else3 → tie.Else2
+abbrev two : tie.Else-is_outside → tie.Else-not-is_between
 two c = c.before.before.before.before
 
-abbrev three : tie.Else4 → tie.Else3
+abbrev three : tie.Else-is_locked → tie.Else-is_outside
 three c = c.before.before
 
-four : (c : tie.Else1) → eqb (length c.before.before.args.octets.now) 4 ≡ true
-four c = eq-eqb _ _ c.if1.false
+four : (c : tie.Else-octets-ne4) → eqb (length c.before.before.args.octets.now) 4 ≡ true
+four c = eq-eqb _ _ c.if-octets-ne4.false
 
-known : (c : tie.Else2) → between 1 (kind_of (one c).before.before.args.octets.now) 4 ≡ true
-known c = sym c.before.is-between.ensures ∙ not-false _ c.if2.false
+known : (c : tie.Else-not-is_between) → between 1 (kind_of (one c).before.before.args.octets.now) 4 ≡ true
+known c = sym c.before.is_between.ensures ∙ c.if-not-is_between.false
 
-inside : (c : tie.Else3)
+inside : (c : tie.Else-is_outside)
     → let r = (one (two c)).before.before.args.octets.now in outside (kind_of r) (a_of r) (b_of r) ≡ false
-inside c = sym c.before.is-outside.ensures ∙ c.if3.false
+inside c = sym c.before.is_outside.ensures ∙ c.if-is_outside.false
 
-unlocked : (c : tie.Else4)
+unlocked : (c : tie.Else-is_locked)
     → let a = (one (two (three c))).before.before.args in locked (kind_of a.octets.now) a.state.flag ≡ false
-unlocked c = sym c.before.is-locked.ensures ∙ c.if4.false
+unlocked c = sym c.before.is_locked.ensures ∙ c.if-is_locked.false
 
-returns : tie.Need-returns
+returns : tie.Need-returns-then-octets-ne4
 unfolding host_refusal
-returns c = rw (ne_eqb _ _ c.if1.true)
+returns c = rw (ne_eqb _ _ c.if-octets-ne4.true)
 
-returns_2 : tie.Need-returns-2
+returns_2 : tie.Need-returns-then-not-is_between
 unfolding host_refusal
-returns_2 c = rw (four c.before.before.before, sym c.before.is-between.ensures ∙ not-true _ c.if2.true)
+returns_2 c = rw (four c.before.before.before, sym c.before.is_between.ensures ∙ c.if-not-is_between.true)
 
-returns_3 : tie.Need-returns-3
+returns_3 : tie.Need-returns-then-is_outside
 unfolding host_refusal
 returns_3 c =
     let d = c.before.before.before.before in
-    rw (four (one d), known d, sym c.before.is-outside.ensures ∙ c.if3.true)
+    rw (four (one d), known d, sym c.before.is_outside.ensures ∙ c.if-is_outside.true)
 
-returns_4 : tie.Need-returns-4
+returns_4 : tie.Need-returns-then-is_locked
 unfolding host_refusal
 returns_4 c =
     let d = c.before.before in
-    rw (four (one (two d)), known (two d), inside d, sym c.before.is-locked.ensures ∙ c.if4.true)
+    rw (four (one (two d)), known (two d), inside d, sym c.before.is_locked.ensures ∙ c.if-is_locked.true)
 
-returns_5 : tie.Need-returns-5
+returns_5 : tie.Need-returns-then-is_unstaged
 unfolding host_refusal
 returns_5 c =
     let d = c.before.before in
     let b = two (three d) in
-    let e : c.before.is-unstaged.result ≡ true = c.if5.true in
-    rw (four (one b), known b, inside (three d), unlocked d, sym c.before.is-unstaged.ensures ∙ e)
+    let e : c.before.is_unstaged.result ≡ true = c.if-is_unstaged.true in
+    rw (four (one b), known b, inside (three d), unlocked d, sym c.before.is_unstaged.ensures ∙ e)
 
-returns_6 : tie.Need-returns-6
+returns_6 : tie.Need-returns
 unfolding host_refusal
 returns_6 c =
     let d = c.before.before in
     let b = two (three d) in
-    rw (four (one b), known b, inside (three d), unlocked d, sym c.before.is-unstaged.ensures ∙ c.if5.false)
+    rw (four (one b), known b, inside (three d), unlocked d, sym c.before.is_unstaged.ensures ∙ c.if-is_unstaged.false)
 
 pub host_refusal_spec : {M : Type 1} → statement M
 host_refusal_spec =

@@ -7,4 +7,4 @@ use Rattle.exchange.proofs.is_outside.Tie as tie
 
 pub is_outside_spec : {M : Type 1} → statement M
 unfolding outside
-is_outside_spec = tie.close (tie.spec (search rules) (λ c. rw c.is-between.ensures refl))
+is_outside_spec = tie.close (tie.spec (search rules) (λ c. rw c.is_between.ensures refl))

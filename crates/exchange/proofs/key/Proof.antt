@@ -5,21 +5,21 @@ use Rattle.exchange.proofs.Laws.{key_to_1, key_to_0, key_elsewhere}
 use Rattle.exchange.proofs.key.Statement.{statement}
 use Rattle.exchange.proofs.key.Tie as tie
 
-returns : tie.Need-returns
+returns : tie.Need-returns-then-position-eq1
 returns c =
     let a = c.before.before.args in
-    rw (c.accepted.ensures, key_to_1 a.state a.position c.before.if1.true) refl
+    rw (c.accepted.ensures, key_to_1 a.state a.position c.before.if-position-eq1.true) refl
 
-returns_2 : tie.Need-returns-2
+returns_2 : tie.Need-returns-then-position-eq0
 returns_2 c =
     let a = c.before.before.before.args in
-    rw (c.accepted2.ensures, key_to_0 a.state a.position c.before.if2.true) refl
+    rw (c.accepted-then-position-eq0.ensures, key_to_0 a.state a.position c.before.if-position-eq0.true) refl
 
-returns_3 : tie.Need-returns-3
+returns_3 : tie.Need-returns
 returns_3 c =
     let d = c.before.before in
     let a = d.before.args in
-    rw (c.refused.ensures, key_elsewhere a.state a.position d.if1.false c.before.if2.false) refl
+    rw (c.refused.ensures, key_elsewhere a.state a.position d.if-position-eq1.false c.before.if-position-eq0.false) refl
 
 pub key_spec : {M : Type 1} → statement M
 key_spec = tie.close (tie.spec (search rules) returns (search rules) returns_2 (search rules) returns_3)

@@ -12,30 +12,30 @@ use Rattle.exchange.proofs.Parts.{slot_taken}
 use Rattle.exchange.proofs.map_frame.Statement.{statement}
 use Rattle.exchange.proofs.map_frame.Tie as tie
 
-abbrev invariant_loop : tie.invariant_loop
+abbrev invariant_loop : tie.invariant-loop-i
 invariant_loop map frame out₀ slots i₀ out i = (i ≤ 31) × (length out ≡ 31) × (take i out ≡ tab i (octet_of map frame))
 
-abbrev decreases_loop : tie.decreases_loop
+abbrev decreases_loop : tie.decreases-loop-i
 decreases_loop map frame out₀ slots i₀ out i = 31 - i
 
-cast_entry : tie.Need-overflow-cast-entry invariant_loop decreases_loop
+cast_entry : tie.Need-overflow_cast-entry invariant_loop decreases_loop
 cast_entry c =
     let l = c.before.before in
-    omega (arith, l.before.before.before.before.requires.0 (l.loop.i + 1) (omega arith))
+    omega (arith, l.before.before.before.before.requires.0 (l.loop-i.i + 1) (omega arith))
 
-array_read_out : tie.Need-array-read-out invariant_loop decreases_loop
+array_read_out : tie.Need-bounds-slots-entry invariant_loop decreases_loop
 array_read_out c =
     let l = c.before.before in
-    omega (arith, l.before.before.before.before.requires.0 (l.loop.i + 1) (omega arith))
+    omega (arith, l.before.before.before.before.requires.0 (l.loop-i.i + 1) (omega arith))
 
-loop_again : tie.Need-loop-preserved invariant_loop decreases_loop
+loop_again : tie.Need-loop-i-preserved invariant_loop decreases_loop
 loop_again c =
-    let l = c.before.before.loop in
+    let l = c.before.before.loop-i in
     let w = c.before.before.before in
     let s = w.before.before.before in
     let m = s.args.map.now in
     let f = s.args.frame.now in
-    let v = ap (λ x. get_or x (get_or m (l.i + 1) 0) 0) w.slots.ensures ∙ slot_taken m f l.i (omega arith) (s.requires.0 (l.i + 1) (omega arith)) in (
+    let v = ap (λ x. get_or x (get_or m (l.i + 1) 0) 0) w.slots-slots.ensures ∙ slot_taken m f l.i (omega arith) (s.requires.0 (l.i + 1) (omega arith)) in (
       omega arith,
       simp length-set l.invariant.1,
       ap (λ x. take (l.i + 1) (set l.out l.i x)) v
@@ -45,7 +45,7 @@ loop_again c =
 returns : tie.Need-returns invariant_loop decreases_loop
 unfolding mapped_payload
 returns c =
-    let l = c.before.loop in
+    let l = c.before.loop-i in
     let a = c.before.before.before.before.before.args in
     let e : l.i ≡ length a.frame.now = omega arith in
     tab_fill l.out (length a.frame.now) (octet_of a.map.now a.frame.now) (omega arith)

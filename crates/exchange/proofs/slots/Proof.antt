@@ -9,15 +9,15 @@ use Rattle.exchange.proofs.Parts.{slots_more}
 use Rattle.exchange.proofs.slots.Statement.{statement}
 use Rattle.exchange.proofs.slots.Tie as tie
 
-abbrev invariant_loop : tie.invariant_loop
+abbrev invariant_loop : tie.invariant-loop-j
 invariant_loop frame slots₀ j₀ slots j = (j ≤ 31) × (length slots ≡ 32) × (take (j + 1) slots ≡ take (j + 1) (255 ∷ frame))
 
-abbrev decreases_loop : tie.decreases_loop
+abbrev decreases_loop : tie.decreases-loop-j
 decreases_loop frame slots₀ j₀ slots j = 31 - j
 
-loop_again : tie.Need-loop-preserved invariant_loop decreases_loop
+loop_again : tie.Need-loop-j-preserved invariant_loop decreases_loop
 loop_again c =
-    let l = c.before.before.loop in
+    let l = c.before.before.loop-j in
     let frame = c.before.before.before.args.frame.now in (
       omega arith,
       simp length-set l.invariant.1,
@@ -26,7 +26,7 @@ loop_again c =
 
 returns : tie.Need-returns invariant_loop decreases_loop
 returns c =
-    let l = c.before.loop in
+    let l = c.before.loop-j in
     let whole : List ℕ = 255 ∷ c.before.before.args.frame.now in
     copy_done l.slots whole (l.j + 1) (omega arith) (omega arith) l.invariant.2
 

@@ -5,4 +5,4 @@ use Rattle.exchange.proofs.stage.Tie as tie
 
 pub stage_spec : {M : Type 1} → statement M
 stage_spec =
-    tie.close (tie.spec (search rules) (λ c. rw c.if1.true) (search rules) (λ c. rw c.before.if1.false))
+    tie.close (tie.spec (search rules) (λ c. rw c.if-state.true) (search rules) (λ c. rw c.before.if-state.false))

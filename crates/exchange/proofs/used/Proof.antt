@@ -8,5 +8,5 @@ pub used_spec : {M : Type 1} → statement M
 used_spec =
     tie.close
     (tie.spec
-    (λ c. rw (le-leb c.before.args.entry 31 (omega (arith, c.if1.true))))
-    (λ c. rw (lt-leb c.before.args.entry 31 (omega (arith, c.if1.false)))))
+    (λ c. rw (le-leb c.before.args.entry 31 (omega (arith, c.if-entry-le31.true))))
+    (λ c. rw (lt-leb c.before.args.entry 31 (omega (arith, c.if-entry-le31.false)))))

@@ -16,8 +16,8 @@ roomy c = start_room c.args.image.now c.requires.0 c.args.place c.args.k c.requi
 returns : tie.Need-returns
 returns c =
     let d = c.before.before in
-    let e = c.track.ensures in
-    located_so d.args.image.now d.requires.0 d.args.place d.args.k d.requires.1 _ _ c.track.result.used refl refl e.2
+    let e = c.track-tracked.ensures in
+    located_so d.args.image.now d.requires.0 d.args.place d.args.k d.requires.1 _ _ c.track-tracked.result.used refl refl e.2
     _ refl refl refl refl refl e.0 e.5 e.6 e.1
 
 pub located_at_spec : {M : Type 1} → statement M

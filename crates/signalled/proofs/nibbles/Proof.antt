@@ -14,10 +14,10 @@ use Rattle.signalled.proofs.Laws.{within}
 use Rattle.signalled.proofs.nibbles.Statement.{statement}
 use Rattle.signalled.proofs.nibbles.Tie as tie
 
-abbrev invariant_loop : tie.invariant_loop
+abbrev invariant_loop : tie.invariant-loop-i
 invariant_loop octets n low i₀ i = (i ≤ n) × (length octets ≡ n) × (all i (within low octets) ≡ true)
 
-abbrev decreases_loop : tie.decreases_loop
+abbrev decreases_loop : tie.decreases-loop-i
 decreases_loop octets n low i₀ i = n - i
 
 -- one that is too small or too large, and one that is neither
@@ -32,36 +32,36 @@ outside low x b h t = go (ltb x low) b refl h t
     go true b e h t = rw (lt-leb low x (ltb-true x low e))
     go false b e h t = rw (h t) (and_no (leb low x))
 
-returns_2 : tie.Need-returns-2 invariant_loop decreases_loop
+returns_2 : tie.Need-returns-then-x-low invariant_loop decreases_loop
 unfolding nibbles
 returns_2 c =
     let l = c.before.before.before in
     let a = l.before.before.args in
     let o = a.octets.now in
-    let x = get_or o l.loop.i 0 in
-    let t = outside a.low x _ (λ h. lt-leb x 15 (omega (arith, ltb-true _ x h))) c.if2.true in
-    sym (ap₂ ◌&&◌ (eq-eqb _ _ l.loop.invariant.1) (all_fails a.n (within a.low o) l.loop.i (omega arith) t))
+    let x = get_or o l.loop-i.i 0 in
+    let t = outside a.low x _ (λ h. lt-leb x 15 (omega (arith, ltb-true _ x h))) c.if-x-low.true in
+    sym (ap₂ ◌&&◌ (eq-eqb _ _ l.loop-i.invariant.1) (all_fails a.n (within a.low o) l.loop-i.i (omega arith) t))
 
-loop_again : tie.Need-loop-preserved invariant_loop decreases_loop
+loop_again : tie.Need-loop-i-preserved invariant_loop decreases_loop
 loop_again c =
     let l = c.before.before.before in
     let a = l.before.before.args in
     let o = a.octets.now in
-    let x = get_or o l.loop.i 0 in
-    let k = (or-eq-false-eq-eq-false-and-eq-false _ _).0 c.if2.false in
+    let x = get_or o l.loop-i.i 0 in
+    let k = (or-eq-false-eq-eq-false-and-eq-false _ _).0 c.if-x-low.false in
     let h = ltb-false x _ k.0 in
     let h' = ltb-false _ x k.1 in
-    let t : within a.low o l.loop.i ≡ true = ap₂ ◌&&◌ (le-leb a.low x (omega arith)) (le-leb x 15 (omega arith)) in
-    (omega arith, l.loop.invariant.1, all_more l.loop.i (within a.low o) l.loop.invariant.2 t)
+    let t : within a.low o l.loop-i.i ≡ true = ap₂ ◌&&◌ (le-leb a.low x (omega arith)) (le-leb x 15 (omega arith)) in
+    (omega arith, l.loop-i.invariant.1, all_more l.loop-i.i (within a.low o) l.loop-i.invariant.2 t)
 
-returns_3 : tie.Need-returns-3 invariant_loop decreases_loop
+returns_3 : tie.Need-returns invariant_loop decreases_loop
 unfolding nibbles
 returns_3 c =
     let l = c.before in
     let a = l.before.before.args in
     let o = a.octets.now in
-    let i = l.loop.invariant in
-    let e : a.n ≡ l.loop.i = omega arith in
+    let i = l.loop-i.invariant in
+    let e : a.n ≡ l.loop-i.i = omega arith in
     sym (ap₂ ◌&&◌ (eq-eqb _ _ i.1) (ap (λ n. all n (within a.low o)) e ∙ i.2))
 
 pub nibbles_spec : {M : Type 1} → statement M
@@ -69,6 +69,6 @@ unfolding nibbles all
 nibbles_spec =
     tie.close
     (tie.spec invariant_loop decreases_loop
-    (λ c. simp (ne_eqb _ _ c.if1.true))
+    (λ c. simp (ne_eqb _ _ c.if-octets-n.true))
     (λ c. (omega arith, omega arith, refl))
     (omega arith) returns_2 (omega arith) (omega arith) loop_again returns_3)

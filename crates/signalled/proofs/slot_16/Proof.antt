@@ -21,28 +21,28 @@ channels x v i h n =
     let k : i % 16 ≡ i = omega arith in
     rw (e, k, ne_eqb i 0 n) (two_channels v (i - 1) (i + 14) _ _ (omega arith) (omega arith))
 
-returns : tie.Need-returns
+returns : tie.Need-returns-then-i-eq0
 unfolding slot16
-returns c = rw c.if1.true
+returns c = rw c.if-i-eq0.true
 
-mul_result : tie.Need-overflow-mul-result
+mul_result : tie.Need-overflow_mul-result
 mul_result c =
     let s = c.before.before in
     let v = s.requires.0.its_abcd in
     omega (arith, v.most (s.args.i - 1), v.most (s.args.i + 14))
 
-add_result_2 : tie.Need-overflow-add-result-2
+add_result_2 : tie.Need-overflow_add-result-2
 add_result_2 c =
     let s = c.before.before.before in
     let v = s.requires.0.its_abcd in
     omega (arith, v.most (s.args.i - 1), v.most (s.args.i + 14))
 
-returns_2 : tie.Need-returns-2
+returns_2 : tie.Need-returns
 returns_2 c =
     let e = c.before.before in
     let s = e.before in
     let a = s.args in
-    channels a.xy a.abcd.now a.i s.requires.1 e.if1.false
+    channels a.xy a.abcd.now a.i s.requires.1 e.if-i-eq0.false
 
 pub slot_16_spec : {M : Type 1} → statement M
 slot_16_spec =

@@ -7,15 +7,15 @@ use Rattle.base.proofs.PartLaws.{copy_more, copy_done}
 use Rattle.signalled.proofs.with_slot16.Statement.{statement}
 use Rattle.signalled.proofs.with_slot16.Tie as tie
 
-abbrev invariant_loop : tie.invariant_loop
+abbrev invariant_loop : tie.invariant-loop-j
 invariant_loop payload x octets₀ j₀ octets j = (j ≤ 31) × (length octets ≡ 31) × (take j octets ≡ take j payload)
 
-abbrev decreases_loop : tie.decreases_loop
+abbrev decreases_loop : tie.decreases-loop-j
 decreases_loop payload x octets₀ j₀ octets j = 31 - j
 
-loop_again : tie.Need-loop-preserved invariant_loop decreases_loop
+loop_again : tie.Need-loop-j-preserved invariant_loop decreases_loop
 loop_again c =
-    let l = c.before.before.loop in
+    let l = c.before.before.loop-j in
     let payload = c.before.before.before.args.payload.now in (
       omega arith,
       simp length-set l.invariant.1,
@@ -24,7 +24,7 @@ loop_again c =
 
 returns : tie.Need-returns invariant_loop decreases_loop
 returns c =
-    let l = c.before.loop in
+    let l = c.before.loop-j in
     let a = c.before.before.args in
     ap (λ o. set o 15 a.x) (copy_done l.octets a.payload.now l.j (omega arith) (omega arith) l.invariant.2)
 

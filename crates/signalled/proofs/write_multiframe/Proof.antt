@@ -7,11 +7,11 @@ use Rattle.signalled.specs.Slot16.{with_slot16}
 use Rattle.signalled.proofs.write_multiframe.Statement.{statement}
 use Rattle.signalled.proofs.write_multiframe.Tie as tie
 
-write_block_requires : tie.Need-write-block-requires
+write_block_requires : tie.Need-write_block-c-requires
 write_block_requires c κs =
     let p = c.before.before.before.before.before.requires in (p.0, p.1, omega arith, search rules, p.3)
 
-write_block_requires_2 : tie.Need-write-block-requires-2
+write_block_requires_2 : tie.Need-write_block-requires
 write_block_requires_2 c κs =
     let w = c.before.before.before in
     let p = w.before.before.before.before.before.before.requires in
@@ -35,10 +35,10 @@ returns c =
     let s = w₁.before.before.before.before.before.before in
     let a = s.args in
     multiframe_done (with_slot16 a.payload.now (a.xy ∷ []) a.abcd.now) a.overhead.now a.k a.out.now
-    w₁.write-block.new.1.1.1.1.1.1.0 w₂.write-block2.new.1.1.1.1.1.1.0 w₁.write-block.result
-    w₂.write-block2.result
-    s.requires.2 w₁.write-block.ensures.0 w₁.write-block.ensures.1.0 w₂.write-block2.ensures.0
-    w₂.write-block2.ensures.1.0
+    w₁.write_block-c.new.out w₂.write_block.new.out w₁.write_block-c.result
+    w₂.write_block.result
+    s.requires.2 w₁.write_block-c.ensures.0 w₁.write_block-c.ensures.1.0 w₂.write_block.ensures.0
+    w₂.write_block.ensures.1.0
 
 pub write_multiframe_spec : {M : Type 1} → statement M
 write_multiframe_spec =

@@ -13,5 +13,5 @@ bit_1_spec =
     tie.close
     (tie.spec
     (search rules)
-    (λ c. (simp (lt-ltb _ _ c.if1.true) refl, signal_lt (c.before.args.f / 2 % 8) (omega arith)))
-    (λ c. (simp (le-ltb _ _ c.if1.false) refl, omega arith)))
+    (λ c. (simp (lt-ltb _ _ c.if-h-lt6.true) refl, signal_lt (c.before.args.f / 2 % 8) (omega arith)))
+    (λ c. (simp (le-ltb _ _ c.if-h-lt6.false) refl, omega arith)))

@@ -3,7 +3,7 @@ use mathlib.Core.Path.{◌≡◌, sym, ◌∙◌}
 use mathlib.Core.Bool.{true}
 use native.Mathlib.Omega.{arith}
 use borrow.Author.Rules.{rules}
-use borrow.Author.Tests.{lt-ltb, le-ltb, not-true, not-false}
+use borrow.Author.Tests.{lt-ltb, le-ltb}
 use lib.ListN.{length}
 use Rattle.e1.specs.Payload.{multiframes, sized}
 use Rattle.write.specs.Entry.{overhead_fits}
@@ -11,33 +11,33 @@ use Rattle.write.proofs.fault.Statement.{statement}
 use Rattle.write.proofs.fault.Tie as tie
 
 -- behind each test: where the call starts, and what is passed
-abbrev one : tie.Else1 → tie.Start
+abbrev one : tie.Else-not-is_sized → tie.Start
 one c = c.before.before.before.before
 
-abbrev two : tie.Else2 → tie.Start
+abbrev two : tie.Else-not-overhead_fits → tie.Start
 two c = one c.before.before
 
-whole : (c : tie.Else1) → sized (length (one c).args.payload.now) ≡ true
-whole c = sym c.before.is-sized.ensures ∙ not-false c.before.is-sized.result c.if1.false
+whole : (c : tie.Else-not-is_sized) → sized (length (one c).args.payload.now) ≡ true
+whole c = sym c.before.is_sized.ensures ∙ c.if-not-is_sized.false
 
-fits : (c : tie.Else2) → let a = (two c).args in overhead_fits a.overhead.now (multiframes a.payload.now) ≡ true
-fits c = sym c.before.overhead-fits.ensures ∙ not-false c.before.overhead-fits.result c.if2.false
+fits : (c : tie.Else-not-overhead_fits) → let a = (two c).args in overhead_fits a.overhead.now (multiframes a.payload.now) ≡ true
+fits c = sym c.before.overhead_fits.ensures ∙ c.if-not-overhead_fits.false
 
-returns : tie.Need-returns
-returns c = rw (sym c.before.is-sized.ensures ∙ not-true _ c.if1.true)
+returns : tie.Need-returns-then-not-is_sized
+returns c = rw (sym c.before.is_sized.ensures ∙ c.if-not-is_sized.true)
 
-returns_2 : tie.Need-returns-2
-returns_2 c = rw (whole c.before.before, sym c.before.overhead-fits.ensures ∙ not-true _ c.if2.true)
+returns_2 : tie.Need-returns-then-not-overhead_fits
+returns_2 c = rw (whole c.before.before, sym c.before.overhead_fits.ensures ∙ c.if-not-overhead_fits.true)
 
-returns_3 : tie.Need-returns-3
+returns_3 : tie.Need-returns-then-check-gt15
 returns_3 c =
     let d = c.before in
-    rw (whole d.before.before, fits d, lt-ltb 15 (two d).args.check (omega (arith, c.if3.true)))
+    rw (whole d.before.before, fits d, lt-ltb 15 (two d).args.check (omega (arith, c.if-check-gt15.true)))
 
-returns_4 : tie.Need-returns-4
+returns_4 : tie.Need-returns
 returns_4 c =
     let d = c.before in
-    rw (whole d.before.before, fits d, le-ltb 15 (two d).args.check (omega (arith, c.if3.false)))
+    rw (whole d.before.before, fits d, le-ltb 15 (two d).args.check (omega (arith, c.if-check-gt15.false)))
 
 pub fault_spec : {M : Type 1} → statement M
 fault_spec = tie.close (tie.spec (search rules) returns (search rules) returns_2 returns_3 returns_4)

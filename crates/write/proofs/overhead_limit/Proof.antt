@@ -9,5 +9,5 @@ pub overhead_limit_spec : {M : Type 1} → statement M
 overhead_limit_spec =
     tie.close
     (tie.spec
-    (λ c. simp (lt-ltb (c.before.args.h % 8) 6 (omega (arith, c.if1.true))))
-    (λ c. simp (le-ltb (c.before.args.h % 8) 6 (omega (arith, c.if1.false)))))
+    (λ c. simp (lt-ltb (c.before.args.h % 8) 6 (omega (arith, c.if-h-lt6.true))))
+    (λ c. simp (le-ltb (c.before.args.h % 8) 6 (omega (arith, c.if-h-lt6.false)))))

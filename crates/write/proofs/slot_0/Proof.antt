@@ -11,14 +11,14 @@ odd : (k f x b : ℕ) → (f % 2 ≡ 0 → ⊥) → b ≡ bit1 f x → 128 * b +
 unfolding slot0
 odd k f x b n e = ap (λ b. 128 * b + 64 + x % 64) e ∙ sym (rw (ne_eqb (f % 2) 0 n))
 
-returns_2 : tie.Need-returns-2
+returns_2 : tie.Need-returns
 returns_2 c =
-    let a = c.before.before.args in odd a.k a.f a.x c.bit-1.result c.before.if1.false c.bit-1.ensures.0
+    let a = c.before.before.args in odd a.k a.f a.x c.bit_1.result c.before.if-f-eq0.false c.bit_1.ensures.0
 
 pub slot_0_spec : {M : Type 1} → statement M
 unfolding slot0
 slot_0_spec =
     tie.close
     (tie.spec (search rules) (search rules) (search rules) (search rules) (search rules)
-    (λ c. simp (eq-eqb _ _ c.if1.true))
+    (λ c. simp (eq-eqb _ _ c.if-f-eq0.true))
     (search rules) (search rules) (search rules) (search rules) returns_2)

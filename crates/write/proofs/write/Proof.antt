@@ -8,33 +8,33 @@ use Rattle.write.proofs.Parts.{refused, taken}
 use Rattle.write.proofs.write.Statement.{statement}
 use Rattle.write.proofs.write.Tie as tie
 
-returns : tie.Need-returns
+returns : tie.Need-returns-then-number-ne0
 returns c =
-    let r = c.before.refusal in
+    let r = c.before.refusal-number in
     let a = c.before.before.before.before.before.args in
-    refused a.payload.now a.overhead.now a.check a.out.now r.result r.ensures c.if1.true
+    refused a.payload.now a.overhead.now a.check a.out.now r.result r.ensures c.if-number-ne0.true
 
-cast_write_all : tie.Need-overflow-cast-write-all
+cast_write_all : tie.Need-overflow_cast-check
 cast_write_all c =
     let a = c.before.before.before.before.before.args in
-    let z = sym c.before.refusal.ensures ∙ c.if1.false in
+    let z = sym c.before.refusal-number.ensures ∙ c.if-number-ne0.false in
     omega (arith, (accepted_call a.payload.now a.overhead.now a.check (length a.out.now) z).inputs.four_bits)
 
-write_all_requires : tie.Need-write-all-requires
+write_all_requires : tie.Need-write_all-last-requires
 write_all_requires c κs =
     let a = c.before.before.before.before.before.before.args in
-    let z = sym c.before.before.refusal.ensures ∙ c.before.if1.false in
+    let z = sym c.before.before.refusal-number.ensures ∙ c.before.if-number-ne0.false in
     let k = accepted_call a.payload.now a.overhead.now a.check (length a.out.now) z in
     (k.inputs, k.room)
 
-returns_2 : tie.Need-returns-2
+returns_2 : tie.Need-returns
 returns_2 c =
-    let w = c.before.before.write-all in
+    let w = c.before.before.write_all-last in
     let e = c.before.before.before.before in
-    let r = e.before.refusal in
+    let r = e.before.refusal-number in
     let a = e.before.before.before.before.before.args in
     taken a.payload.now a.overhead.now a.check a.out.now r.result r.ensures
-    w.result w.new.1.1.1.1.0 e.if1.false w.ensures.1 w.ensures.0
+    w.result w.new.out e.if-number-ne0.false w.ensures.1 w.ensures.0
 
 pub write_spec : {M : Type 1} → statement M
 write_spec =
