@@ -12,46 +12,40 @@ use Rattle.read.proofs.locate.Tie as tie
 
 returns : tie.Need-returns-then-image-lt2048
 returns c =
-    let s = c.before.before.before.args.image.now in
+    let s = c.args.image.now in
     let its : c.nowhere.result ≡ nowhere 1 0 = c.nowhere.ensures in
-    its ∙ located_nowhere s 0 0 (placed_1 s c.before.if-image-lt2048.true) refl
+    its ∙ located_nowhere s 0 0 (placed_1 s c.if-image-lt2048.true) refl
 
 returns_2 : tie.Need-returns-then-image-gt8192
 returns_2 c =
-    let s = c.before.before.before.before.args.image.now in
+    let s = c.args.image.now in
     let its : c.nowhere-then-image-gt8192.result ≡ nowhere 2 0 = c.nowhere-then-image-gt8192.ensures in
-    its ∙ located_nowhere s 1 0 (placed_2 s c.before.if-image-gt8192.true) refl
-
--- past the first two tests
-good : (c : tie.Else-image-gt8192) → GoodLength c.before.before.before.args.image.now
-good c = record { long = c.before.if-image-lt2048.false; short = c.if-image-gt8192.false }
+    its ∙ located_nowhere s 1 0 (placed_2 s c.if-image-gt8192.true) refl
 
 located_at_requires : tie.Need-located_at-requires
 located_at_requires c κs =
-    let m = c.before in
-    let f = m.before.before in
-    let s = f.before.before.before.before.args.image.now in
-    (good f.before, found_at (first_standing s) (first_basic s) _ _ (sym f.find-found.ensures ∙ m.found-1.given.1))
+    let s = c.args.image.now in
+    let good : GoodLength s = record { long = c.if-image-lt2048.false; short = c.if-image-gt8192.false } in
+    (good, found_at (first_standing s) (first_basic s) _ _ (sym c.find-found.ensures ∙ c.in-At.is))
 
 -- number 15, with the place that the search found
 returns_4 : tie.Need-returns-in-BasicAt
 unfolding place_in
 returns_4 c =
-    let m = c.before.before in
-    let f = m.before.before in
-    let s = f.before.before.before.before.args.image.now in
-    let e = sym f.find-found.ensures ∙ m.found-in-BasicAt-1.given.1 in
-    let p = m.found-in-BasicAt-1.given.0.0 in
+    let s = c.args.image.now in
+    let good : GoodLength s = record { long = c.if-image-lt2048.false; short = c.if-image-gt8192.false } in
+    let e = sym c.find-found.ensures ∙ c.in-BasicAt.is in
+    let p = c.in-BasicAt.place in
     let its : c.nowhere-in-BasicAt.result ≡ nowhere 15 p = c.nowhere-in-BasicAt.ensures in
-    its ∙ located_nowhere s 14 p (placed_15 s (good f.before) _ e) (sym (ap place_of e))
+    its ∙ located_nowhere s 14 p (placed_15 s good _ e) (sym (ap place_of e))
 
 returns_5 : tie.Need-returns-in-Nothing
 returns_5 c =
-    let f = c.before.before.before in
-    let s = f.before.before.before.before.args.image.now in
-    let e = sym f.find-found.ensures ∙ c.before.enum_told-1.given.1 in
+    let s = c.args.image.now in
+    let good : GoodLength s = record { long = c.if-image-lt2048.false; short = c.if-image-gt8192.false } in
+    let e = sym c.find-found.ensures ∙ c.in-Nothing.is in
     let its : c.nowhere-in-Nothing.result ≡ nowhere 3 0 = c.nowhere-in-Nothing.ensures in
-    its ∙ located_nowhere s 2 0 (placed_3 s (good f.before) e) refl
+    its ∙ located_nowhere s 2 0 (placed_3 s good e) refl
 
 pub locate_spec : {M : Type 1} → statement M
 locate_spec =

@@ -70,7 +70,7 @@ returns_3 c =
     refl refl refl refl refl refl refl
     n.compared-compared.ensures
     (j.judge-errored.ensures ∙ ap (disagreeing a.image.now l.locate-located.result.start) n.compared-compared.ensures)
-    f.far_end_errors.ensures
+    f.far_end-farend.ensures
     refl refl
     y.payload_of.ensures
     z.slot0_of.ensures
