@@ -21,7 +21,7 @@ pub struct State {
 }
 
 // the state that a call leaves, its number, 0 where it is accepted, and the entry that it reads
-#[derive(Drop)]
+#[derive(Clone, Copy)]
 pub struct Answered {
     pub state: State,
     pub number: u64,

@@ -1,5 +1,6 @@
 // The search for the first place of a T1 image that stands, 56 places at once.
 #![tactic(auto)]
+
 ghost use Rattle.std.specs.Prelude.{◌≡◌, ◌+◌, ◌-◌, ◌*◌, ◌%◌, ◌^◌, ◌<◌, ◌≤◌, leb, length};
 ghost use Rattle.base.specs.Choice.{when_so};
 ghost use Rattle.line.specs.Bit.{Room};
@@ -9,7 +10,7 @@ ghost use Rattle.t1sliced.specs.Sliced.{Exactly};
 ghost use Rattle.t1align.specs.Window.{HalfFramed, BothHalfFramed, BothFramed, FirstWindow};
 
 // the first place that stands, if there is one
-#[derive(Drop)]
+#[derive(Clone, Copy)]
 pub enum Found {
     At { place: usize },
     Nothing,
@@ -19,7 +20,7 @@ pub enum Found {
 // for its place 0, the next for the next.
 
 // a window of the image, and its places with both signals
-#[derive(Drop)]
+#[derive(Clone, Copy)]
 struct Candidates {
     at: usize,
     places: u64,

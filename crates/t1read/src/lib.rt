@@ -1,5 +1,6 @@
 // Reading a T1 image from the first place that stands.
 #![tactic(auto)]
+
 ghost use Rattle.std.specs.Prelude.{◌≡◌, ◌++◌, ◌+◌, ◌*◌, ◌^◌, ◌<◌, ◌≤◌, length, drop};
 ghost use Rattle.std.proofs.Math.Option.{some};
 ghost use Rattle.line.specs.Bit.{Room, octet_at};
@@ -13,7 +14,7 @@ ghost use Rattle.t1read.specs.Filled.{filled, every_eighth};
 ghost use Rattle.t1read.specs.Entry.{Read, GoodLength, refuse};
 
 // What is read: the number is 0, or the refusal's with zeros beside it.
-#[derive(Drop)]
+#[derive(Clone, Copy)]
 pub struct Reading {
     pub number: u64,
     pub place: usize,

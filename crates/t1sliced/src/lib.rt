@@ -1,6 +1,7 @@
 // The checks of 56 places at once, sliced: the remainders of the places of a part stand in six words, one for each
 // coefficient, that of 1 first, and bit 63 - o of each belongs to the place o.
 #![tactic(auto)]
+
 ghost use Rattle.std.specs.Prelude.{◌≡◌, ◌+◌, ◌*◌, ◌<◌, ◌≤◌, length};
 ghost use Rattle.t1.specs.Raw.{raw, lacking};
 ghost use Rattle.t1sliced.specs.Sliced.{Exactly, AgreesAt, Sliced, Times, PlusLater, change};

@@ -1,5 +1,6 @@
 // Writing superframes of a T1 line.
 #![tactic(auto)]
+
 ghost use Rattle.std.specs.Prelude.{◌≡◌, ◌++◌, ◌+◌, ◌-◌, ◌*◌, ◌/◌, ◌%◌, ◌^◌, ◌<◌, ◌≤◌, length, drop};
 ghost use Rattle.base.specs.Answer.{first_number};
 ghost use Rattle.line.specs.Spelt.{packed, spelt};
@@ -8,7 +9,7 @@ ghost use Rattle.t1write.specs.Entry.{are_bits, faults, Wrote, WroteSignalled};
 ghost use Rattle.t1write.specs.Inputs.{OfBits, Inputs, frames_bit};
 
 // what an entry answers: the number, 0 where the call is accepted, and the check of the last superframe
-#[derive(Drop)]
+#[derive(Clone, Copy)]
 pub struct Written {
     pub number: u64,
     pub check: u64,

@@ -11,7 +11,7 @@ ghost use Rattle.write.specs.Entry.{overhead_limit, overhead_fits, faults, refus
 ghost use Rattle.write.specs.Inputs.{Inputs};
 
 // what `write` answers: the number, 0 where the call is accepted, and the check of the last block
-#[derive(Drop)]
+#[derive(Clone, Copy)]
 pub struct Written {
     pub number: u64,
     pub check: u64,

@@ -6,16 +6,16 @@ use Rattle.signals.specs.Follow.{begins}
 use Rattle.signals.proofs.begins.Statement.{statement}
 use Rattle.signals.proofs.begins.Tie as tie
 
-returns : tie.Need-returns
+returns : tie.Need-returns-then-held
 unfolding begins
 returns c =
     let a = c.before.before.before.args in
-    ap (λ b. not (a.wrong && not b)) c.signal_at_lem.ensures
-    ∙ sym (ap (λ h. begins a.t.now a.f h a.wrong) c.before.if1.true)
+    ap (λ b. not (a.wrong && not b)) c.signal_at.ensures
+    ∙ sym (ap (λ h. begins a.t.now a.f h a.wrong) c.before.if-held.true)
 
-returns_2 : tie.Need-returns-2
+returns_2 : tie.Need-returns
 unfolding begins
-returns_2 c = rw (c.before.if1.false, c.aligns.ensures)
+returns_2 c = rw (c.before.if-held.false, c.aligns.ensures)
 
 pub begins_spec : {M : Type 1} → statement M
 begins_spec = tie.close (tie.spec (search rules) returns (search rules) returns_2)

@@ -16,21 +16,21 @@ use Rattle.signals.proofs.put_channels.Tie as tie
 abbrev Written : List ℕ → List ℕ → ℕ → Type 0
 Written t out i = (length out ≡ 30) × (take i out ≡ tab i (λ i. abcd_at t 0 (i + 1)))
 
-abbrev invariant_loop : tie.invariant_loop
+abbrev invariant_loop : tie.invariant-loop-i
 invariant_loop t out₀ i₀ out i = (i ≤ 15) × Written t out i
 
-abbrev decreases_loop : tie.decreases_loop
+abbrev decreases_loop : tie.decreases-loop-i
 decreases_loop t out₀ i₀ out i = 15 - i
 
-abbrev invariant_loop2 : tie.invariant_loop2
+abbrev invariant_loop2 : tie.invariant-loop-i-2
 invariant_loop2 t out₀ i₀ out i = (15 ≤ i) × (i ≤ 30) × Written t out i
 
-abbrev decreases_loop2 : tie.decreases_loop2
+abbrev decreases_loop2 : tie.decreases-loop-i-2
 decreases_loop2 t out₀ i₀ out i = 30 - i
 
-loop_again : tie.Need-loop-preserved invariant_loop decreases_loop invariant_loop2 decreases_loop2
+loop_again : tie.Need-loop-i-preserved invariant_loop decreases_loop invariant_loop2 decreases_loop2
 loop_again c =
-    let l = c.before.before.loop in
+    let l = c.before.before.loop-i in
     let t = c.before.before.before.args.t.now in (
       omega arith,
       (
@@ -40,9 +40,9 @@ loop_again c =
       ),
     )
 
-loop2_again : tie.Need-loop2-preserved invariant_loop decreases_loop invariant_loop2 decreases_loop2
+loop2_again : tie.Need-loop-i-2-preserved invariant_loop decreases_loop invariant_loop2 decreases_loop2
 loop2_again c =
-    let l = c.before.before.loop2 in
+    let l = c.before.before.loop-i-2 in
     let t = c.before.before.before.before.before.args.t.now in (
       omega arith,
       omega arith,
@@ -56,7 +56,7 @@ loop2_again c =
 returns : tie.Need-returns invariant_loop decreases_loop invariant_loop2 decreases_loop2
 unfolding channels
 returns c =
-    let l = c.before.loop2 in
+    let l = c.before.loop-i-2 in
     let t = c.before.before.before.before.args.t.now in
     let e : l.i ≡ 30 = omega arith in
     tab_fill l.out 30 (λ i. abcd_at t 0 (i + 1)) (omega (arith, l.invariant.2.0)) (rw e at l.invariant.2.1)
@@ -74,7 +74,7 @@ put_channels_spec =
     (omega arith)
     loop_again
     (λ c.
-    let l = c.before.loop in
+    let l = c.before.loop-i in
     let e : l.i ≡ 15 = omega arith in
     (omega arith, omega arith, (l.invariant.1.0, rw e at l.invariant.1.1)))
     (omega arith)

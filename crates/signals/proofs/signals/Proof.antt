@@ -17,81 +17,81 @@ use Rattle.signals.proofs.signals.Statement.{statement}
 use Rattle.signals.proofs.signals.Tie as tie
 
 -- where the call starts
-abbrev start : tie.After-locate → tie.Start
+abbrev start : tie.After-locate-located → tie.Start
 start c = c.before.before.before
 
-returns : tie.Need-returns
+returns : tie.Need-returns-then-located-ne0
 returns c =
     let l = c.before.before.before in
     let a = (start l).args in
-    rw c.refused.ensures (unplaced_as a.image.now a.out.now l.locate.result l.locate.ensures c.before.if1.true)
+    rw c.refused.ensures (unplaced_as a.image.now a.out.now l.locate-located.result l.locate-located.ensures c.before.if-located-ne0.true)
 
 -- a place stands
-there : (c : tie.Else1) → Places (start c.before.before).args.image.now c.before.before.locate.result
+there : (c : tie.Else-located-ne0) → Places (start c.before.before).args.image.now c.before.before.locate-located.result
 there c =
     let l = c.before.before in
-    places (start l).args.image.now l.locate.result l.locate.ensures c.if1.false
+    places (start l).args.image.now l.locate-located.result l.locate-located.ensures c.if-located-ne0.false
 
 -- slot 16 of the frames that are used
-abbrev t : tie.After-slot16-of → List ℕ
+abbrev t : tie.After-slot16_of-octets → List ℕ
 t c = slot16_in (start c.before.before.before).args.image.now
 
-slots : (c : tie.After-slot16-of) → take (16 * c.before.before.before.locate.result.used - 0) c.slot16-of.result ≡ t c
+slots : (c : tie.After-slot16_of-octets) → take (16 * c.before.before.before.locate-located.result.used - 0) c.slot16_of-octets.result ≡ t c
 slots c =
     let l = c.before.before.before in
-    let g = l.locate.result.used in
+    let g = l.locate-located.result.used in
     let z : 16 * g - 0 ≡ 16 * g = omega arith in
-    ap (λ n. take n c.slot16-of.result) z ∙ c.slot16-of.ensures
+    ap (λ n. take n c.slot16_of-octets.result) z ∙ c.slot16_of-octets.ensures
     ∙ ap₂ (slot16_of (start l).args.image.now) (there c.before).at (there c.before).upto
 
-short : (c : tie.After-slot16-of) → length (t c) ≤ 256
+short : (c : tie.After-slot16_of-octets) → length (t c) ≤ 256
 short c =
     let p = there c.before in
     let s = (start c.before.before.before).args.image.now in
     omega (arith, slot16_length s (start_in s) (used_in s), p.upto, p.few)
 
 -- what is found in them
-abbrev taken : tie.After-follow → tie.After-slot16-of
+abbrev taken : tie.After-follow-found → tie.After-slot16_of-octets
 taken c = c.before.before.before.before
 
-found : (c : tie.After-follow) → c.follow.result ≡ followed (t (taken c))
-found c = c.follow.ensures ∙ ap followed (slots (taken c))
+found : (c : tie.After-follow-found) → c.follow-found.result ≡ followed (t (taken c))
+found c = c.follow-found.ensures ∙ ap followed (slots (taken c))
 
 mul_if2 : tie.Need-overflow-mul-if2
-mul_if2 c = omega (arith, found_few (t (taken c.before)) c.before.follow.result (found c.before) (short (taken c.before)))
+mul_if2 c = omega (arith, found_few (t (taken c.before)) c.before.follow-found.result (found c.before) (short (taken c.before)))
 
-returns_2 : tie.Need-returns-2
+returns_2 : tie.Need-returns-then-out-found
 returns_2 c =
     let f = c.before.before.before in
     let l = (taken f).before.before.before in
     let a = (start l).args in
-    let n = found_read (t (taken f)) f.follow.result (found f) in
-    rw c.refused2.ensures
+    let n = found_read (t (taken f)) f.follow-found.result (found f) in
+    rw c.refused-then-out-found.ensures
     (refused_as a.image.now a.out.now 4
     (placed_then a.image.now (length a.out.now) (there (taken f).before).none true
-    (lt-ltb (length a.out.now) (filled (t (taken f))) (omega (arith, c.before.if2.true))))
+    (lt-ltb (length a.out.now) (filled (t (taken f))) (omega (arith, c.before.if-out-found.true))))
     (λ z. omega arith))
 
 -- the output has room
-fits : (c : tie.Else2)
+fits : (c : tie.Else-out-found)
     → (let f = c.before.before in filled (t (taken f)) ≤ length (start (taken f).before.before.before).args.out.now)
 fits c =
     let f = c.before.before in
-    let n = found_read (t (taken f)) f.follow.result (found f) in
-    omega (arith, c.if2.false)
+    let n = found_read (t (taken f)) f.follow-found.result (found f) in
+    omega (arith, c.if-out-found.false)
 
-xy_requires : tie.Need-xy-requires
+xy_requires : tie.Need-xy-xy-requires
 xy_requires c κs =
     let f = c.before.before.before.before in
     rw (slots (taken f)) (short (taken f), found f)
 
-put_abcd_requires : tie.Need-put-abcd-requires
+put_abcd_requires : tie.Need-put_abcd-requires
 put_abcd_requires c κs =
     let e = c.before.before.before.before.before.before in
     let f = e.before.before in
     rw (slots (taken f)) (short (taken f), found f, fits e)
 
-returns_3 : tie.Need-returns-3
+returns_3 : tie.Need-returns
 returns_3 c =
     let w = c.before.before.before in
     let x = w.before.before.before.before in
@@ -99,11 +99,11 @@ returns_3 c =
     let f = e.before.before in
     let g = taken f in
     let a = (start g.before.before.before).args in
-    accepted_as a.image.now a.out.now _ w.put-abcd.new.1.1.0
+    accepted_as a.image.now a.out.now _ w.put_abcd.new.1.1.0
     (placed_then a.image.now (length a.out.now) (there g.before).none false
     (le-ltb (length a.out.now) (filled (t g)) (fits e)))
-    (answer_found (t g) f.follow.result x.xy.result (found f) (rw (slots g) at x.xy.ensures))
-    (rw (slots g) at w.put-abcd.ensures)
+    (answer_found (t g) f.follow-found.result x.xy-xy.result (found f) (rw (slots g) at x.xy-xy.ensures))
+    (rw (slots g) at w.put_abcd.ensures)
 
 pub signals_spec : {M : Type 1} → statement M
 signals_spec =

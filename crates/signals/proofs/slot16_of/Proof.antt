@@ -13,19 +13,19 @@ use Rattle.signals.specs.Entry.{slot16_of}
 use Rattle.signals.proofs.slot16_of.Statement.{statement}
 use Rattle.signals.proofs.slot16_of.Tie as tie
 
-abbrev invariant_loop : tie.invariant_loop
+abbrev invariant_loop : tie.invariant-loop-f
 invariant_loop s q g i o octets₀ f₀ f-end octets f =
     (f ≤ 16 * g) × (f-end ≡ 16 * g) × (length octets ≡ 256) × (take f octets ≡ tab f (λ f. octet_at s (slot_at q f 16)))
 
-abbrev decreases_loop : tie.decreases_loop
+abbrev decreases_loop : tie.decreases-loop-f
 decreases_loop s q g i o octets₀ f₀ f-end octets f = 16 * g - f
 
-loop_again : tie.Need-loop-preserved invariant_loop decreases_loop
+loop_again : tie.Need-loop-f-preserved invariant_loop decreases_loop
 loop_again c =
-    let l = c.before.before.loop in
+    let l = c.before.before.loop-f in
     let a = c.before.before.before.before.args in
     let p = 8 * (a.q / 8 + 32 * l.f + 16) + bit_and a.q 7 in
-    let its : c.octet-in.result ≡ octet_at a.s.now p = c.octet-in.ensures in
+    let its : c.octet_in.result ≡ octet_at a.s.now p = c.octet_in.ensures in
     let at : p ≡ slot_at a.q l.f 16 = omega (arith, place_in a.q) in (
       omega arith,
       refl,
@@ -37,11 +37,11 @@ loop_again c =
 returns : tie.Need-returns invariant_loop decreases_loop
 unfolding slot16_of
 returns c =
-    let l = c.before.loop in
+    let l = c.before.loop-f in
     let e : l.f ≡ 16 * c.before.before.before.args.g = omega arith in
     rw e at l.invariant.3
 
-octet_in_requires : tie.Need-octet-in-requires invariant_loop decreases_loop
+octet_in_requires : tie.Need-octet_in-requires invariant_loop decreases_loop
 octet_in_requires c κs =
     let q = c.before.before.before.args.q in (omega (arith, place_in q), omega (arith, and_le_r q 7))
 

@@ -33,10 +33,10 @@ Known s at r i = (at ≤ i) × (at % 7 ≡ i % 7) × (r ≡ raw s (8 * at)) × (
 abbrev NoneBefore : List ℕ → ℕ → Type 0
 NoneBefore s p = (q : ℕ) → q < p → Stands s q → ⊥
 
-abbrev invariant_loop : tie.invariant_loop
+abbrev invariant_loop : tie.invariant-loop-i
 invariant_loop s end at₀ r₀ i₀ at r i = NoneBefore s (8 * i) × Known s at r i × (i < end + 7)
 
-abbrev decreases_loop : tie.decreases_loop
+abbrev decreases_loop : tie.decreases-loop-i
 decreases_loop s end at₀ r₀ i₀ at r i = end + 7 - i
 
 zeros_fit : (x : ℕ) → Fits w64 (count_leading_zeros 64 x)
@@ -80,37 +80,37 @@ module _ (s : List ℕ) (i framed agreed : ℕ) (few : framed < 2 ^ 64) (signals
             })))
       ]
 
-at_first_holds : tie.Need-loop-init invariant_loop decreases_loop
+at_first_holds : tie.Need-loop-i-init invariant_loop decreases_loop
 at_first_holds c =
     let s = c.before.before.before.before.before.args.s.now in (
       λ q h. absurd (omega arith),
-      (omega arith, refl, c.of.ensures.0 ∙ raw_part s 0 579 0 0 (omega arith) (omega arith), c.of.ensures.1),
+      (omega arith, refl, c.of-raw.ensures.0 ∙ raw_part s 0 579 0 0 (omega arith) (omega arith), c.of-raw.ensures.1),
       omega arith,
     )
 
 -- no place that is passed over stands, as it has not both signals
-none_passed : (c : tie.After-onward invariant_loop decreases_loop)
-    → NoneBefore c.before.before.before.before.before.before.before.before.args.s.now (8 * c.onward.result.at)
+none_passed : (c : tie.After-onward-c invariant_loop decreases_loop)
+    → NoneBefore c.before.before.before.before.before.before.before.before.args.s.now (8 * c.onward-c.result.at)
 none_passed c q l h =
-    let at = c.before.before.loop in
+    let at = c.before.before.loop-i in
     elim (dec_lt q (8 * at.i)) [
       | yes g ↦ at.invariant.0 q g h
-      | no g ↦ c.onward.ensures.passed.none q (omega arith) l (h.first, h.second)
+      | no g ↦ c.onward-c.ensures.passed.none q (omega arith) l (h.first, h.second)
     ]
 
 -- the window that it stops at, which has places
-stopped : (c : tie.Else2 invariant_loop decreases_loop)
+stopped : (c : tie.Else-c-eq0 invariant_loop decreases_loop)
     → (let w = c.before.before in
     let s = w.before.before.before.before.before.before.before.before.args.s.now in
-    let r = w.onward.result in
+    let r = w.onward-c.result in
     (r.at + 1158 ≤ length s) × Exactly (λ o. BothFramed s (8 * r.at + o)) r.places)
-stopped c = let h = c.before.before.onward.ensures.has c.if2.false in (omega (arith, h.0), h.1)
+stopped c = let h = c.before.before.onward-c.ensures.has c.if-c-eq0.false in (omega (arith, h.0), h.1)
 
-raw_on_requires : tie.Need-raw-on-requires invariant_loop decreases_loop
+raw_on_requires : tie.Need-raw_on-raw-requires invariant_loop decreases_loop
 raw_on_requires c κs =
     let w = c.before.before in
-    let k = w.before.before.loop.invariant.1 in
-    let p = w.onward.ensures.passed in (
+    let k = w.before.before.loop-i.invariant.1 in
+    let p = w.onward-c.ensures.passed in (
       record { countable = omega arith; there = omega (arith, (stopped c).0) },
       omega (arith, p.onward, k.0),
       k.1 ∙ sym p.windows,
@@ -123,39 +123,39 @@ agreeing_requires c κs =
     let r = c.before in
     let w = r.before.before.before in
     let s = w.before.before.before.before.before.before.before.before.args.s.now in
-    let i = w.onward.result.at in (
+    let i = w.onward-c.result.at in (
       length_of_octets s i 1158 (stopped r.before).0,
-      r.raw-on.ensures.0 ∙ sym (raw_part s i (i + 1158 - i) 0 (8 * i) (omega arith) (omega arith)),
-      r.raw-on.ensures.1,
+      r.raw_on-raw.ensures.0 ∙ sym (raw_part s i (i + 1158 - i) 0 (8 * i) (omega arith) (omega arith)),
+      r.raw_on-raw.ensures.1,
     )
 
-returns_3 : tie.Need-returns-3 invariant_loop decreases_loop
+returns_3 : tie.Need-returns-then-o-lt56 invariant_loop decreases_loop
 returns_3 c =
     let d = c.before.before.before in
     let t = d.before.before.before in
     let w = t.before.before in
     let s = w.before.before.before.before.before.before.before.before.args.s.now in
     c.placed.ensures
-    ∙ answered s w.onward.result.at w.onward.result.places d.agreeing.result (omega arith) (stopped t).1
+    ∙ answered s w.onward-c.result.at w.onward-c.result.places d.agreeing.result (omega arith) (stopped t).1
     d.agreeing.ensures
     (none_passed w)
     (omega arith)
 
-loop_again : tie.Need-loop-preserved invariant_loop decreases_loop
+loop_again : tie.Need-loop-i-preserved invariant_loop decreases_loop
 loop_again c =
     let d = c.before.before in
     let r = d.before.before in
     let w = r.before.before.before in
     let s = w.before.before.before.before.before.before.before.before.args.s.now in
-    let i = w.onward.result.at in
+    let i = w.onward-c.result.at in
     let h = stopped r.before in
     let none : NoneBefore s (8 * i + 56)
-    = past_zeros s i w.onward.result.places d.agreeing.result (omega arith) h.1 d.agreeing.ensures (none_passed w) 56
+    = past_zeros s i w.onward-c.result.places d.agreeing.result (omega arith) h.1 d.agreeing.ensures (none_passed w) 56
     (omega arith)
     (omega arith) in (
       λ q g. none q (omega arith),
-      (omega arith, omega arith, r.raw-on.ensures.0, r.raw-on.ensures.1),
-      omega (arith, h.0, w.before.before.before.before.before.before.octets-with-room.ensures),
+      (omega arith, omega arith, r.raw_on-raw.ensures.0, r.raw_on-raw.ensures.1),
+      omega (arith, h.0, w.before.before.before.before.before.before.octets_with_room-end.ensures),
     )
 
 pub find_spec : {M : Type 1} → statement M
@@ -174,8 +174,8 @@ find_spec =
     (λ c κs. (omega arith, omega arith, omega arith))
     (λ c.
     let w = c.before.before in
-    nowhere w.before.before.before.before.before.before.before.before.args.s.now (8 * w.onward.result.at) (none_passed w)
-    (omega (arith, w.onward.ensures.ended c.if2.true)))
+    nowhere w.before.before.before.before.before.before.before.before.args.s.now (8 * w.onward-c.result.at) (none_passed w)
+    (omega (arith, w.onward-c.ensures.ended c.if-c-eq0.true)))
     raw_on_requires
     (λ c. omega (arith, (stopped c.before).0))
     (omega arith)
@@ -191,8 +191,8 @@ find_spec =
     (λ c. omega (arith, (stopped c.before.before.before.before.before).0))
     (λ c.
     let t = c.before.before.before.before.before in
-    omega (arith, (stopped t).0, t.before.before.onward.ensures.passed.onward))
+    omega (arith, (stopped t).0, t.before.before.onward-c.ensures.passed.onward))
     loop_again
     (λ c.
     let l = c.before in
-    nowhere l.before.before.before.before.before.before.args.s.now (8 * l.loop.i) l.loop.invariant.0 (omega arith)))
+    nowhere l.before.before.before.before.before.before.args.s.now (8 * l.loop-i.i) l.loop-i.invariant.0 (omega arith)))

@@ -11,22 +11,22 @@ use Rattle.t1align.proofs.Sets.{as_exactly, none_exactly}
 use Rattle.t1align.proofs.onward.Statement.{statement}
 use Rattle.t1align.proofs.onward.Tie as tie
 
-abbrev invariant_loop2 : tie.invariant_loop2
+abbrev invariant_loop2 : tie.invariant-loop-w
 invariant_loop2 s i end k w₀ w = Passed s i (k + 7 * w) × (w ≤ 4)
 
-abbrev decreases_loop2 : tie.decreases_loop2
+abbrev decreases_loop2 : tie.decreases-loop-w
 decreases_loop2 s i end k w₀ w = 4 - w
 
-abbrev invariant_loop : tie.invariant_loop
+abbrev invariant_loop : tie.invariant-loop-k
 invariant_loop s i end k₀ k = Passed s i k × (k < end + 7)
 
-abbrev decreases_loop : tie.decreases_loop
+abbrev decreases_loop : tie.decreases-loop-k
 decreases_loop s i end k₀ k = end + 7 - k
 
-abbrev invariant_loop3 : tie.invariant_loop3
+abbrev invariant_loop3 : tie.invariant-loop-k-2
 invariant_loop3 s i end k₀ k = Passed s i k × (k < end + 7)
 
-abbrev decreases_loop3 : tie.decreases_loop3
+abbrev decreases_loop3 : tie.decreases-loop-k-2
 decreases_loop3 s i end k₀ k = end + 7 - k
 
 -- the window at octet k, come to from octet i on, and its places with both signals
@@ -53,49 +53,49 @@ module _ (s : List ℕ) (i k places : ℕ) (before : Passed s i k) (signals : Ex
             ];
       }
 
-loop2_holds : tie.Need-loop2-init invariant_loop2 decreases_loop2 invariant_loop decreases_loop invariant_loop3 decreases_loop3
+loop2_holds : tie.Need-loop-w-init invariant_loop2 decreases_loop2 invariant_loop decreases_loop invariant_loop3 decreases_loop3
 loop2_holds c =
     let l = c.before in
-    let e : l.loop.k + 0 ≡ l.loop.k = omega arith in
-    (rw e l.loop.invariant.0, omega arith)
+    let e : l.loop-k.k + 0 ≡ l.loop-k.k = omega arith in
+    (rw e l.loop-k.invariant.0, omega arith)
 
-returns : tie.Need-returns invariant_loop2 decreases_loop2 invariant_loop decreases_loop invariant_loop3 decreases_loop3
+returns : tie.Need-returns-then-places-ne0 invariant_loop2 decreases_loop2 invariant_loop decreases_loop invariant_loop3 decreases_loop3
 returns c =
     let w = c.before.before.before.before in
     let k = w.before.before in
     let a = k.before.before.args in
-    stops a.s.now a.i (k.loop.k + 7 * w.loop2.w) _ w.loop2.invariant.0 c.before.signals.ensures a.end (omega arith)
-    c.if1.true
+    stops a.s.now a.i (k.loop-k.k + 7 * w.loop-w.w) _ w.loop-w.invariant.0 c.before.signals-places.ensures a.end (omega arith)
+    c.if-places-ne0.true
 
-loop2_again : tie.Need-loop2-preserved invariant_loop2 decreases_loop2 invariant_loop decreases_loop invariant_loop3 decreases_loop3
+loop2_again : tie.Need-loop-w-preserved invariant_loop2 decreases_loop2 invariant_loop decreases_loop invariant_loop3 decreases_loop3
 loop2_again c =
     let w = c.before.before.before.before in
     let k = w.before.before in
     let a = k.before.before.args in (
-      passes a.s.now a.i (k.loop.k + 7 * w.loop2.w) _ w.loop2.invariant.0 c.before.signals.ensures c.if1.false
+      passes a.s.now a.i (k.loop-k.k + 7 * w.loop-w.w) _ w.loop-w.invariant.0 c.before.signals-places.ensures c.if-places-ne0.false
           (omega arith),
       omega arith,
     )
 
-loop_again : tie.Need-loop-preserved invariant_loop2 decreases_loop2 invariant_loop decreases_loop invariant_loop3 decreases_loop3
+loop_again : tie.Need-loop-k-preserved invariant_loop2 decreases_loop2 invariant_loop decreases_loop invariant_loop3 decreases_loop3
 loop_again c =
     let w = c.before in
-    let k = w.before.before.loop.k in
-    let e : k + 7 * w.loop2.w ≡ k + 28 = omega arith in
-    let passed = w.loop2.invariant.0 in
+    let k = w.before.before.loop-k.k in
+    let e : k + 7 * w.loop-w.w ≡ k + 28 = omega arith in
+    let passed = w.loop-w.invariant.0 in
     (rw e at passed, omega arith)
 
-returns_2 : tie.Need-returns-2 invariant_loop2 decreases_loop2 invariant_loop decreases_loop invariant_loop3 decreases_loop3
+returns_2 : tie.Need-returns-then-places-ne0-2 invariant_loop2 decreases_loop2 invariant_loop decreases_loop invariant_loop3 decreases_loop3
 returns_2 c =
     let k = c.before.before.before.before in
     let a = k.before.before.before.before.args in
-    stops a.s.now a.i k.loop3.k _ k.loop3.invariant.0 c.before.signals2.ensures a.end (omega arith) c.if2.true
+    stops a.s.now a.i k.loop-k-2.k _ k.loop-k-2.invariant.0 c.before.signals-places-in-loop-k-2.ensures a.end (omega arith) c.if-places-ne0-2.true
 
-loop3_again : tie.Need-loop3-preserved invariant_loop2 decreases_loop2 invariant_loop decreases_loop invariant_loop3 decreases_loop3
+loop3_again : tie.Need-loop-k-2-preserved invariant_loop2 decreases_loop2 invariant_loop decreases_loop invariant_loop3 decreases_loop3
 loop3_again c =
     let k = c.before.before.before.before in
     let a = k.before.before.before.before.args in (
-      passes a.s.now a.i k.loop3.k _ k.loop3.invariant.0 c.before.signals2.ensures c.if2.false (omega arith),
+      passes a.s.now a.i k.loop-k-2.k _ k.loop-k-2.invariant.0 c.before.signals-places-in-loop-k-2.ensures c.if-places-ne0-2.false (omega arith),
       omega arith,
     )
 
@@ -121,7 +121,7 @@ onward_spec =
     (λ c κs.
     let w = c.before.before in
     let k = w.before.before in
-    length_of_octets k.before.before.args.s.now (k.loop.k + 7 * w.loop2.w) 1158 (omega arith))
+    length_of_octets k.before.before.args.s.now (k.loop-k.k + 7 * w.loop-w.w) 1158 (omega arith))
     returns
     (omega arith)
     (omega arith)
@@ -129,16 +129,16 @@ onward_spec =
     (omega arith)
     (omega arith)
     loop_again
-    (λ c. c.before.loop.invariant)
+    (λ c. c.before.loop-k.invariant)
     (omega arith)
     (omega arith)
     (omega arith)
     (omega arith)
     (λ c κs.
     let k = c.before.before in
-    length_of_octets k.before.before.before.before.args.s.now k.loop3.k 1158 (omega arith))
+    length_of_octets k.before.before.before.before.args.s.now k.loop-k-2.k 1158 (omega arith))
     returns_2
     (omega arith)
     (omega arith)
     loop3_again
-    (λ c. record { passed = c.before.loop3.invariant.0; has = λ some. absurd (some refl); ended = λ z. omega arith }))
+    (λ c. record { passed = c.before.loop-k-2.invariant.0; has = λ some. absurd (some refl); ended = λ z. omega arith }))

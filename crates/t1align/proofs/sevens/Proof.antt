@@ -18,10 +18,10 @@ returns c =
     _
     (where_exactly 7 (lit< tt) _ _
     (where_both 7 (lit< tt) _ _ _ _
-    (bit 2 (λ o. o) 554 _ (λ o. omega arith) x₀.eight-octets.ensures)
+    (bit 2 (λ o. o) 554 _ (λ o. omega arith) x₀.eight_octets.ensures)
     (where_neither 7 (lit< tt) _ _ _ _ (omega arith) (omega arith)
-    (bit 0 (λ o. o) 168 _ (λ o. omega arith) x₁.eight-octets2.ensures)
-    (bit 1 (λ o. o) 361 _ (λ o. omega arith) x₂.eight-octets3.ensures)))))
+    (bit 0 (λ o. o) 168 _ (λ o. omega arith) x₁.eight_octets-2.ensures)
+    (bit 1 (λ o. o) 361 _ (λ o. omega arith) x₂.eight_octets-3.ensures)))))
 
 pub sevens_spec : {M : Type 1} → statement M
 sevens_spec = tie.close (tie.spec (search rules) (search rules) (search rules) (search rules) returns)

@@ -57,20 +57,20 @@ most c =
     both_exactly _ _ _ _ three.threes.ensures
     (sevens_of_part three.before.before.args.part.now 0 (λ o. o) (λ o. omega arith) _ c.sevens.ensures)
 
-returns : tie.Need-returns
+returns : tie.Need-returns-then-most-eq0
 returns c o l =
     let three = c.before.before.before in
     let s = three.before.before.args.part.now in (
       λ e. absurd (zero_none (63 - o) e),
-      λ h. absurd (none_exactly _ _ c.if1.true (most c.before) o l ((two_tests s o).1 h).0),
+      λ h. absurd (none_exactly _ _ c.if-most-eq0.true (most c.before) o l ((two_tests s o).1 h).0),
     )
 
-returns_2 : tie.Need-returns-2
+returns_2 : tie.Need-returns
 returns_2 c =
     let m = c.before.before.before in
     let s = m.before.before.before.before.args.part.now in
     as_exactly _ _ (λ o l. two_tests s o) _
-    (both_exactly _ _ _ _ (most m) (sevens_of_part s 579 (λ o. o + 4632) (λ o. omega arith) _ c.sevens2.ensures))
+    (both_exactly _ _ _ _ (most m) (sevens_of_part s 579 (λ o. o + 4632) (λ o. omega arith) _ c.sevens-2.ensures))
 
 pub signals_spec : {M : Type 1} → statement M
 signals_spec =

@@ -29,13 +29,13 @@ returns c =
     (both _ _ _ _
     (both _ _ _ _
     (both _ _ _ _
-    (bit 1 (λ o. o) 265 _ (λ o. omega arith) x₀.eight-octets.ensures)
-    (bit 2 (λ o. o) 458 _ (λ o. omega arith) x₁.eight-octets2.ensures))
-    (bit 1 (λ o. o + 4632) 844 _ (λ o. omega arith) x₂.eight-octets3.ensures))
-    (bit 2 (λ o. o + 4632) 1037 _ (λ o. omega arith) x₃.eight-octets4.ensures))
+    (bit 1 (λ o. o) 265 _ (λ o. omega arith) x₀.eight_octets.ensures)
+    (bit 2 (λ o. o) 458 _ (λ o. omega arith) x₁.eight_octets-2.ensures))
+    (bit 1 (λ o. o + 4632) 844 _ (λ o. omega arith) x₂.eight_octets-3.ensures))
+    (bit 2 (λ o. o + 4632) 1037 _ (λ o. omega arith) x₃.eight_octets-4.ensures))
     (where_neither 3 (lit< tt) _ _ _ _ (omega arith) (omega arith)
-    (bit 0 (λ o. o) 72 _ (λ o. omega arith) x₄.eight-octets5.ensures)
-    (bit 0 (λ o. o + 4632) 651 _ (λ o. omega arith) x₅.eight-octets6.ensures)))))
+    (bit 0 (λ o. o) 72 _ (λ o. omega arith) x₄.eight_octets-5.ensures)
+    (bit 0 (λ o. o + 4632) 651 _ (λ o. omega arith) x₅.eight_octets-6.ensures)))))
 
 pub threes_spec : {M : Type 1} → statement M
 threes_spec =

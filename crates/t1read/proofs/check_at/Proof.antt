@@ -12,15 +12,15 @@ slid_requires c κs =
     let a = c.before.before.before.args in (
       omega arith,
       omega arith,
-      c.of.ensures.0 ∙ raw_part a.s.now a.i (a.i + 579 - a.i) 0 (8 * a.i) (omega arith) (omega arith),
-      c.of.ensures.1,
+      c.of-raw.ensures.0 ∙ raw_part a.s.now a.i (a.i + 579 - a.i) 0 (8 * a.i) (omega arith) (omega arith),
+      c.of-raw.ensures.1,
     )
 
 returns : tie.Need-returns
 returns c =
     let start = c.before.before.before.before.before in
     let a = start.args in
-    c.check-by.ensures.0 a.s.now (8 * a.i + a.o) c.before.slid.ensures.0 start.requires.2
+    c.check_by.ensures.0 a.s.now (8 * a.i + a.o) c.before.slid.ensures.0 start.requires.2
 
 pub check_at_spec : {M : Type 1} → statement M
 check_at_spec =

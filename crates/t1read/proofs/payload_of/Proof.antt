@@ -9,37 +9,37 @@ use Rattle.t1read.proofs.FilledLaws.{of_eighths, filled_none, filled_more, fille
 use Rattle.t1read.proofs.payload_of.Statement.{statement}
 use Rattle.t1read.proofs.payload_of.Tie as tie
 
-abbrev invariant_loop : tie.invariant_loop
+abbrev invariant_loop : tie.invariant-loop-g
 invariant_loop s q n out₀ g₀ out g =
     (g ≤ 8) × (length out ≡ length out₀) × (out ≡ filled (of_eighths g (24 * n)) s q out₀)
 
-abbrev decreases_loop : tie.decreases_loop
+abbrev decreases_loop : tie.decreases-loop-g
 decreases_loop s q n out₀ g₀ out g = 8 - g
 
-loop_holds : tie.Need-loop-init invariant_loop decreases_loop
+loop_holds : tie.Need-loop-g-init invariant_loop decreases_loop
 loop_holds c =
     let a = c.before.before.args in
     (omega arith, refl, sym (filled_none a.s.now a.q (of_eighths 0 (24 * a.n)) a.out.now (eighths_none (24 * a.n))))
 
-loop_again : tie.Need-loop-preserved invariant_loop decreases_loop
+loop_again : tie.Need-loop-g-preserved invariant_loop decreases_loop
 loop_again c =
     let w = c.before.before in
     let l = w.before.before.before in
     let a = l.before.before.before.args in
-    let g = l.loop.g in
+    let g = l.loop-g.g in
     let m = 24 * a.n in (
       omega arith,
-      c.before.out.given ∙ l.loop.invariant.1,
-      filled_more a.s.now a.q (of_eighths g m) (every_eighth g m) (of_eighths (g + 1) m) l.loop.out
-          w.put-every-eighth.new.1.1.1.1.0 a.out.now l.loop.invariant.2 w.put-every-eighth.ensures (eighths_more g m),
+      c.before.out-1.given ∙ l.loop-g.invariant.1,
+      filled_more a.s.now a.q (of_eighths g m) (every_eighth g m) (of_eighths (g + 1) m) l.loop-g.out
+          w.put_every_eighth.new.out a.out.now l.loop-g.invariant.2 w.put_every_eighth.ensures (eighths_more g m),
     )
 
 returns : tie.Need-returns invariant_loop decreases_loop
 returns c =
     let l = c.before in
     let a = l.before.before.before.args in
-    let e : l.loop.g ≡ 8 = omega arith in
-    l.loop.invariant.2 ∙ ap (λ g. filled (of_eighths g (24 * a.n)) a.s.now a.q a.out.now) e
+    let e : l.loop-g.g ≡ 8 = omega arith in
+    l.loop-g.invariant.2 ∙ ap (λ g. filled (of_eighths g (24 * a.n)) a.s.now a.q a.out.now) e
     ∙ filled_all a.s.now a.q a.n a.out.now (omega arith)
 
 pub payload_of_spec : {M : Type 1} → statement M

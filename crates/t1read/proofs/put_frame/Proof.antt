@@ -18,38 +18,38 @@ octet s i o j = octet_at s (8 * i + o + 8 * j)
 abbrev octets : ℕ → ℕ
 octets h = 16 * h - 8 * (h - 1)
 
-abbrev invariant_loop : tie.invariant_loop
+abbrev invariant_loop : tie.invariant-loop-h
 invariant_loop s i o out₀ h₀ out h = (h ≤ 2) × (length out ≡ 24) × (take (octets h) out ≡ tab (octets h) (octet s i o))
 
-abbrev decreases_loop : tie.decreases_loop
+abbrev decreases_loop : tie.decreases-loop-h
 decreases_loop s i o out₀ h₀ out h = 2 - h
 
-put_run_requires : tie.Need-put-run-requires invariant_loop decreases_loop
+put_run_requires : tie.Need-put_run-requires invariant_loop decreases_loop
 put_run_requires c κs =
-    let l = c.before.before.before.loop in
+    let l = c.before.before.before.loop-h in
     let a = 8 * l.h in
     part_length a (a + 16) l.out (omega arith) ∙ omega arith
 
-loop_again : tie.Need-loop-preserved invariant_loop decreases_loop
+loop_again : tie.Need-loop-h-preserved invariant_loop decreases_loop
 loop_again c =
     let w = c.before.before in
     let r = w.before.before in
     let l = r.before.before in
     let a = l.before.before.before.args in
-    let h = l.loop.h in (
+    let h = l.loop-h.h in (
       omega arith,
-      c.before.out.given.1 ∙ l.loop.invariant.1,
+      c.before.out-1.given.1 ∙ l.loop-h.invariant.1,
       part_over (octet a.s.now a.i a.o) (octet a.s.now (a.i + 8 * h) a.o) (8 * h) (octets h) 16 (octets (h + 1))
-          l.loop.out w.put-run.new.1.0 (omega arith) (omega arith) (omega arith)
-          (w.put-run.ensures ∙ r.run_in.ensures) (λ j k. ap (octet_at a.s.now) (omega arith)) l.loop.invariant.2,
+          l.loop-h.out w.put_run.new.out (omega arith) (omega arith) (omega arith)
+          (w.put_run.ensures ∙ r.run_in.ensures) (λ j k. ap (octet_at a.s.now) (omega arith)) l.loop-h.invariant.2,
     )
 
 returns : tie.Need-returns invariant_loop decreases_loop
 returns c =
     let l = c.before in
     let a = l.before.before.before.args in
-    octets_full l.loop.out (octets l.loop.h) 24 (octet a.s.now a.i a.o) (omega arith) (omega arith)
-    l.loop.invariant.2
+    octets_full l.loop-h.out (octets l.loop-h.h) 24 (octet a.s.now a.i a.o) (omega arith) (omega arith)
+    l.loop-h.invariant.2
 
 pub put_frame_spec : {M : Type 1} → statement M
 unfolding tab_from

@@ -12,15 +12,15 @@ use Rattle.t1read.proofs.put_link.Tie as tie
 abbrev link_digit : ℕ → ℕ → ℕ
 link_digit framing k = digit 24 framing (2 * k)
 
-abbrev invariant_loop : tie.invariant_loop
+abbrev invariant_loop : tie.invariant-loop-k
 invariant_loop framing out₀ k₀ out k = (k ≤ 12) × (length out ≡ 12) × (take k out ≡ tab k (link_digit framing))
 
-abbrev decreases_loop : tie.decreases_loop
+abbrev decreases_loop : tie.decreases-loop-k
 decreases_loop framing out₀ k₀ out k = 12 - k
 
-loop_again : tie.Need-loop-preserved invariant_loop decreases_loop
+loop_again : tie.Need-loop-k-preserved invariant_loop decreases_loop
 loop_again c =
-    let l = c.before.loop in
+    let l = c.before.loop-k in
     let x = c.before.before.args.framing in
     let e : 23 - 2 * l.k ≡ 24 - 1 - 2 * l.k = omega arith in (
       omega arith,
@@ -30,7 +30,7 @@ loop_again c =
 
 returns : tie.Need-returns invariant_loop decreases_loop
 returns c =
-    let l = c.before.loop in
+    let l = c.before.loop-k in
     octets_full l.out l.k 12 (link_digit c.before.before.args.framing) (omega arith) (omega arith) l.invariant.2
 
 pub put_link_spec : {M : Type 1} → statement M

@@ -17,8 +17,8 @@ returns c =
     let b0 = b1.before in
     let a = b0.before.args in
     let x : List ℕ = b0.later.result ∷ b1.later-2.result ∷ b2.later-3.result ∷ b3.later-4.result ∷ b4.later-5.result ∷ c.later-6.result ∷ [] in
-    plus_words a.n a.t1 a.t2 x
-    (below_six (λ t. BitsLater a.n (get_or a.t2 t 0) (get_or x t 0)) b0.later.ensures b1.later-2.ensures b2.later-3.ensures
+    plus_words a.n a.a a.b x
+    (below_six (λ t. BitsLater a.n (get_or a.b t 0) (get_or x t 0)) b0.later.ensures b1.later-2.ensures b2.later-3.ensures
     b3.later-4.ensures b4.later-5.ensures c.later-6.ensures)
 
 pub plus_later_spec : {M : Type 1} → statement M

@@ -1,8 +1,8 @@
 -- `times_x2` meets its contract.
 use borrow.Author.Rules.{rules}
 use Rattle.t1sliced.proofs.Words.{times_both}
-use Rattle.t1sliced.proofs.times_x-2.Statement.{statement}
-use Rattle.t1sliced.proofs.times_x-2.Tie as tie
+use Rattle.t1sliced.proofs.times_x2.Statement.{statement}
+use Rattle.t1sliced.proofs.times_x2.Tie as tie
 
 returns : tie.Need-returns
 returns c =

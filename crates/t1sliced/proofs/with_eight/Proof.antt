@@ -36,11 +36,11 @@ returns c n e h =
     frame_on s (n + 7) (n + 8) (8 * (a.i + 168) + 7) f8.framing-8.result (omega arith) (omega arith) f8.framing-8.ensures w7.with_frame-by_7.result c.with_frame.result c.with_frame.ensures h7
 
 -- the contract lies too far back for the search
-add_framing_7 : tie.Need-overflow-add-framing-7
-add_framing_7 c = omega (arith, c.before.before.before.before.before.before.before.before.before.before.before.before.before.before.before.requires.1)
+add_framing_7 : tie.Need-overflow_add-i-7
+add_framing_7 c = omega (arith, c.requires.1)
 
 framing_requires_8 : tie.Need-framing-requires-8
-framing_requires_8 c κs = let pre = c.before.before.before.before.before.before.before.before.before.before.before.before.before.before.before.requires in (pre.0, omega arith, lit< tt)
+framing_requires_8 c κs = let pre = c.requires in (pre.0, omega arith, lit< tt)
 
 pub with_eight_spec : {M : Type 1} → statement M
 with_eight_spec =

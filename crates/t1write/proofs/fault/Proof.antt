@@ -4,7 +4,7 @@ use mathlib.Core.Path.{◌≡◌, sym, ◌∙◌}
 use mathlib.Core.Bool.{true}
 use native.Mathlib.Omega.{arith}
 use borrow.Author.Rules.{rules}
-use borrow.Author.Tests.{lt-ltb, le-ltb, not-true, not-false}
+use borrow.Author.Tests.{lt-ltb, le-ltb}
 use lib.ListN.{length}
 use Rattle.t1.specs.Payload.{superframes, sized}
 use Rattle.t1write.specs.Entry.{are_bits}
@@ -12,33 +12,33 @@ use Rattle.t1write.proofs.fault.Statement.{statement}
 use Rattle.t1write.proofs.fault.Tie as tie
 
 -- behind each test: where the call starts, and what is passed
-abbrev one : tie.Else1 → tie.Start
+abbrev one : tie.Else-not-is_sized → tie.Start
 one c = c.before.before.before.before
 
-abbrev two : tie.Else2 → tie.Start
+abbrev two : tie.Else-not-are_bits → tie.Start
 two c = one c.before.before
 
-whole : (c : tie.Else1) → sized (length (one c).args.payload.now) ≡ true
-whole c = sym c.before.is-sized.ensures ∙ not-false c.before.is-sized.result c.if1.false
+whole : (c : tie.Else-not-is_sized) → sized (length (one c).args.payload.now) ≡ true
+whole c = sym c.before.is_sized.ensures ∙ c.if-not-is_sized.false
 
-fits : (c : tie.Else2) → let a = (two c).args in are_bits a.link.now (12 * superframes a.payload.now) ≡ true
-fits c = sym c.before.are-bits.ensures ∙ not-false c.before.are-bits.result c.if2.false
+fits : (c : tie.Else-not-are_bits) → let a = (two c).args in are_bits a.link.now (12 * superframes a.payload.now) ≡ true
+fits c = sym c.before.are_bits.ensures ∙ c.if-not-are_bits.false
 
-returns : tie.Need-returns
-returns c = rw (sym c.before.is-sized.ensures ∙ not-true _ c.if1.true)
+returns : tie.Need-returns-then-not-is_sized
+returns c = rw (sym c.before.is_sized.ensures ∙ c.if-not-is_sized.true)
 
-returns_2 : tie.Need-returns-2
-returns_2 c = rw (whole c.before.before, sym c.before.are-bits.ensures ∙ not-true _ c.if2.true)
+returns_2 : tie.Need-returns-then-not-are_bits
+returns_2 c = rw (whole c.before.before, sym c.before.are_bits.ensures ∙ c.if-not-are_bits.true)
 
-returns_3 : tie.Need-returns-3
+returns_3 : tie.Need-returns-then-check-gt63
 returns_3 c =
     let d = c.before in
-    rw (whole d.before.before, fits d, lt-ltb 63 (two d).args.check (omega (arith, c.if3.true)))
+    rw (whole d.before.before, fits d, lt-ltb 63 (two d).args.check (omega (arith, c.if-check-gt63.true)))
 
-returns_4 : tie.Need-returns-4
+returns_4 : tie.Need-returns
 returns_4 c =
     let d = c.before in
-    rw (whole d.before.before, fits d, le-ltb 63 (two d).args.check (omega (arith, c.if3.false)))
+    rw (whole d.before.before, fits d, le-ltb 63 (two d).args.check (omega (arith, c.if-check-gt63.false)))
 
 pub fault_spec : {M : Type 1} → statement M
 fault_spec = tie.close (tie.spec (search rules) returns (search rules) (search rules) returns_2 returns_3 returns_4)

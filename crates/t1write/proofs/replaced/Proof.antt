@@ -14,40 +14,40 @@ use Rattle.t1write.proofs.Signals.{set_below, Replacing, none_replaced, five_kep
 use Rattle.t1write.proofs.replaced.Statement.{statement}
 use Rattle.t1write.proofs.replaced.Tie as tie
 
-abbrev invariant_loop : tie.invariant_loop
+abbrev invariant_loop : tie.invariant-loop-i
 invariant_loop payload signalling octets₀ i₀ octets i =
     (i ≤ 576) × (length octets ≡ 576) × (take i octets ≡ take i payload) × ((j : ℕ) → j < i → get_or payload j 0 < 256)
 
-abbrev decreases_loop : tie.decreases_loop
+abbrev decreases_loop : tie.decreases-loop-i
 decreases_loop payload signalling octets₀ i₀ octets i = 576 - i
 
-abbrev invariant_loop3 : tie.invariant_loop3
+abbrev invariant_loop3 : tie.invariant-loop-j
 invariant_loop3 payload signalling octets₀ k j₀ octets j =
     (j ≤ 24) × Replacing payload signalling octets (144 * k + 120 + j) × ((i : ℕ) → get_or octets i 0 < 256)
 
-abbrev decreases_loop3 : tie.decreases_loop3
+abbrev decreases_loop3 : tie.decreases-loop-j
 decreases_loop3 payload signalling octets₀ k j₀ octets j = 24 - j
 
-abbrev invariant_loop2 : tie.invariant_loop2
+abbrev invariant_loop2 : tie.invariant-loop-k
 invariant_loop2 payload signalling octets₀ k₀ octets k =
     (k ≤ 4) × Replacing payload signalling octets (144 * k) × ((i : ℕ) → get_or octets i 0 < 256)
 
-abbrev decreases_loop2 : tie.decreases_loop2
+abbrev decreases_loop2 : tie.decreases-loop-k
 decreases_loop2 payload signalling octets₀ k₀ octets k = 4 - k
 
-loop_again : tie.Need-loop-preserved invariant_loop decreases_loop invariant_loop3 decreases_loop3 invariant_loop2 decreases_loop2
+loop_again : tie.Need-loop-i-preserved invariant_loop decreases_loop invariant_loop3 decreases_loop3 invariant_loop2 decreases_loop2
 loop_again c =
-    let l = c.before.before.loop in
+    let l = c.before.before.loop-i in
     let payload = c.before.before.before.args.payload.now in (
       omega arith,
       simp length-set l.invariant.1,
       copy_more l.octets payload l.i (omega arith) (omega arith) l.invariant.2,
-      λ j h. (c.shared-slice-known.given j).fits,
+      λ j h. (c.shared_slice_known-1.given j).fits,
     )
 
-loop2_holds : tie.Need-loop2-init invariant_loop decreases_loop invariant_loop3 decreases_loop3 invariant_loop2 decreases_loop2
+loop2_holds : tie.Need-loop-k-init invariant_loop decreases_loop invariant_loop3 decreases_loop3 invariant_loop2 decreases_loop2
 loop2_holds c =
-    let l = c.before.loop in
+    let l = c.before.loop-i in
     let a = c.before.before.args in
     let e = copy_done l.octets a.payload.now l.i (omega arith) (omega arith) l.invariant.2 in (
       omega arith,
@@ -59,9 +59,9 @@ loop2_holds c =
           ],
     )
 
-loop3_holds : tie.Need-loop3-init invariant_loop decreases_loop invariant_loop3 decreases_loop3 invariant_loop2 decreases_loop2
+loop3_holds : tie.Need-loop-j-init invariant_loop decreases_loop invariant_loop3 decreases_loop3 invariant_loop2 decreases_loop2
 loop3_holds c =
-    let l = c.before.loop2 in
+    let l = c.before.loop-k in
     let a = c.before.before.before.before.args in
     (omega arith, five_kept a.payload.now a.signalling.now l.octets l.k _ (add-zero _) l.invariant.1, l.invariant.2)
 
@@ -72,10 +72,10 @@ half_fits x h = omega arith
 octet_fits : (x s : ℕ) → x < 256 → s < 2 → Fits w8 (2 * (x / 2) + s)
 octet_fits x s h k = omega arith
 
-loop3_again : tie.Need-loop3-preserved invariant_loop decreases_loop invariant_loop3 decreases_loop3 invariant_loop2 decreases_loop2
+loop3_again : tie.Need-loop-j-preserved invariant_loop decreases_loop invariant_loop3 decreases_loop3 invariant_loop2 decreases_loop2
 loop3_again c =
-    let l = c.before.before.loop3 in
-    let k = c.before.before.before.before.loop2.k in
+    let l = c.before.before.loop-j in
+    let k = c.before.before.before.before.loop-k.k in
     let s = c.before.before.before.before.before.before.before in
     let a = s.args in (
       omega arith,
@@ -84,17 +84,17 @@ loop3_again c =
       set_below l.octets (144 * k + 120 + l.j) 256 _ l.invariant.2 (octet_fits _ _ (l.invariant.2 _) (s.requires.1.bits _)).fits,
     )
 
-loop2_again : tie.Need-loop2-preserved invariant_loop decreases_loop invariant_loop3 decreases_loop3 invariant_loop2 decreases_loop2
+loop2_again : tie.Need-loop-k-preserved invariant_loop decreases_loop invariant_loop3 decreases_loop3 invariant_loop2 decreases_loop2
 loop2_again c =
-    let l = c.before.loop3 in
-    let k = c.before.before.before.loop2.k in
+    let l = c.before.loop-j in
+    let k = c.before.before.before.loop-k.k in
     let a = c.before.before.before.before.before.before.args in
     let e : 144 * k + 120 + l.j ≡ 144 * (k + 1) = omega arith in
     (omega arith, subst (Replacing a.payload.now a.signalling.now l.octets) e l.invariant.1, l.invariant.2)
 
 returns : tie.Need-returns invariant_loop decreases_loop invariant_loop3 decreases_loop3 invariant_loop2 decreases_loop2
 returns c =
-    let l = c.before.loop2 in
+    let l = c.before.loop-k in
     let a = c.before.before.before.before.args in
     all_replaced a.payload.now a.signalling.now l.octets (144 * l.k) (omega arith) l.invariant.1
 
@@ -105,7 +105,7 @@ replaced_spec =
     (λ c. (omega arith, refl, refl, λ j h. absurd (omega arith)))
     (omega arith) (omega arith) (omega arith) (omega arith) loop_again
     loop2_holds loop3_holds (omega arith) (omega arith) (omega arith) (omega arith)
-    (λ c. half_fits _ (c.before.loop3.invariant.2 _))
+    (λ c. half_fits _ (c.before.loop-j.invariant.2 _))
     (omega arith) (omega arith) (omega arith)
-    (λ c. octet_fits _ _ (c.before.before.loop3.invariant.2 _) (c.before.before.before.before.before.before.before.requires.1.bits _))
+    (λ c. octet_fits _ _ (c.before.before.loop-j.invariant.2 _) (c.before.before.before.before.before.before.before.requires.1.bits _))
     (omega arith) (omega arith) (omega arith) loop3_again (omega arith) (omega arith) loop2_again returns)
