@@ -5,14 +5,14 @@ use Rattle.growth.proofs.Counts.{far_end_few}
 use Rattle.chunk.proofs.far_ends.Statement.{statement}
 use Rattle.chunk.proofs.far_ends.Tie as tie
 
-add_result : tie.Need-overflow-add-result
+add_result : tie.Need-overflow_add-result
 add_result c =
     let st = c.before.before.before.before in
     let a = st.args in
     omega (
       arith,
-      c.before.far_end_errors.ensures,
-      c.far-end2.ensures,
+      c.before.far_end.ensures,
+      c.far_end-2.ensures,
       far_end_few a.near.now a.p a.m,
       far_end_few a.far.now a.q a.n,
       st.requires.2,

@@ -18,7 +18,7 @@ roomy : (c : tie.Start) → let a = c.args in
     (a.place + 512 * a.k ≤ 8 * length a.s.now) × (length a.s.now ≤ 1073741824) × (a.before ≤ 1099511627776)
 roomy c = (start_within c.args.s.now c.args.place c.args.k c.requires.2, omega (arith, c.requires.1), omega (arith, c.requires.0))
 
-follow_requires : tie.Need-follow-requires
+follow_requires : tie.Need-follow-x-requires
 follow_requires c κs =
     let st = c.before.before.before in
     let s = st.args.s.now in
@@ -38,13 +38,13 @@ follow_requires c κs =
     )
 
 -- what is seen lies in the image
-ends : (f : tie.After-follow) → let n = length f.before.before.before.before.args.s.now in
-    (f.follow.result.from ≤ 8 * n) × (f.follow.result.gone ≤ n)
+ends : (f : tie.After-follow-x) → let n = length f.before.before.before.before.args.s.now in
+    (f.follow-x.result.from ≤ 8 * n) × (f.follow-x.result.gone ≤ n)
 ends f =
     let a = f.before.before.before.before.args in
     let s = a.s.now in
     let e = (a.place + 512 * a.k) / 8 in
-    let l = rw (to_end s e) at f.follow.ensures in
+    let l = rw (to_end s e) at f.follow-x.ensures in
     (omega (arith, l.there, length-drop e s), omega (arith, l.within, length-drop e s))
 
 returns : tie.Need-returns
@@ -56,7 +56,7 @@ returns c =
     let e = (a.place + 512 * a.k) / 8 in
     let r = roomy u.before.before.before in
     looks_as (ap (λ (y : Line). read_from y (drop e s)) (sym u.unread.ensures))
-    (from_octet s (read_from u.unread.result (drop e s)) f.follow.result e (omega arith) (rw (to_end s e) at f.follow.ensures))
+    (from_octet s (read_from u.unread.result (drop e s)) f.follow-x.result e (omega arith) (rw (to_end s e) at f.follow-x.ensures))
 
 pub from_place_spec : {M : Type 1} → statement M
 from_place_spec =

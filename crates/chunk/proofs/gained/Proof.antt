@@ -13,10 +13,10 @@ returns c =
     let d = j.before in
     let st = d.before.before.before in
     let a = st.args in
-    gains_some a.s.now a.q a.h a.g a.words a.wordbits j.judge.result c.far_end_errors.result st.requires.2 st.requires.3
-    (j.judge.ensures
-    ∙ ap₂ (λ x y. disagreeing a.s.now (a.q + 2048 * x) (y - x)) d.before.compared.ensures d.compared2.ensures)
-    c.far_end_errors.ensures
+    gains_some a.s.now a.q a.h a.g a.words a.wordbits j.judge-errored.result c.far_end-farend.result st.requires.2 st.requires.3
+    (j.judge-errored.ensures
+    ∙ ap₂ (λ x y. disagreeing a.s.now (a.q + 2048 * x) (y - x)) d.before.compared-judged.ensures d.compared.ensures)
+    c.far_end-farend.ensures
 
 pub gained_spec : {M : Type 1} → statement M
 gained_spec =

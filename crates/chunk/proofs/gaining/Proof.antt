@@ -4,7 +4,7 @@ use borrow.Author.Rules.{rules}
 use Rattle.chunk.proofs.gaining.Statement.{statement}
 use Rattle.chunk.proofs.gaining.Tie as tie
 
-add_line_6 : tie.Need-overflow-add-line-6
+add_line_6 : tie.Need-overflow_add-line-6
 add_line_6 c =
     let st = c.before.before.before.before.before.before.before.before.before.before.before in
     omega (arith, st.requires.0.wordbits, st.requires.2.wordbits)

@@ -21,10 +21,10 @@ returns c =
     let a = st.args in
     let fits : length a.window.now ≤ length a.image.now = omega (arith, st.requires) in (
       refl,
-      both_length a.window.now k.copy.new.1.0 a.image.now k.copy.ensures fits a.chunk.now j.copy2.new.1.0
-          j.copy2.ensures st.requires,
-      both_put a.window.now k.copy.new.1.0 a.image.now k.copy.ensures fits a.chunk.now j.copy2.new.1.0
-          j.copy2.ensures st.requires,
+      both_length a.window.now k.copy.new.to a.image.now k.copy.ensures fits a.chunk.now j.copy-2.new.to
+          j.copy-2.ensures st.requires,
+      both_put a.window.now k.copy.new.to a.image.now k.copy.ensures fits a.chunk.now j.copy-2.new.to
+          j.copy-2.ensures st.requires,
     )
 
 pub join_spec : {M : Type 1} → statement M

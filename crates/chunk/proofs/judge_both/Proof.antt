@@ -5,15 +5,15 @@ use Rattle.growth.proofs.Counts.{disagreeing_few}
 use Rattle.chunk.proofs.judge_both.Statement.{statement}
 use Rattle.chunk.proofs.judge_both.Tie as tie
 
-add_result : tie.Need-overflow-add-result
+add_result : tie.Need-overflow_add-result
 add_result c =
     let j = c.before.before in
     let st = j.before.before.before.before.before in
     let a = st.args in
     omega (
       arith,
-      j.judge-by.ensures,
-      c.judge-by2.ensures,
+      j.judge_by.ensures,
+      c.judge_by-2.ensures,
       disagreeing_few a.near.now a.p a.m,
       disagreeing_few a.far.now a.q a.n,
       st.requires.2,

@@ -19,7 +19,7 @@ returns c =
     let k = c.before.before in
     let a = k.before.before.before.before.before.args in
     let s = a.s.now in
-    (sym (length-drop a.gone s), kept_put s a.window.now a.gone k.copy.new.1.0 k.copy.ensures)
+    (sym (length-drop a.gone s), kept_put s a.window.now a.gone k.copy.new.to k.copy.ensures)
 
 pub keep_spec : {M : Type 1} → statement M
 keep_spec =

@@ -15,31 +15,31 @@ follow_requires c κs =
     let st = c.before.before.before.before.before.before in
     (small_more st.args.c (2 ^ 40) (2 ^ 41) (omega arith) st.requires.0, st.requires.1)
 
-returns : tie.Need-returns
+returns : tie.Need-returns-then-c-eq0
 returns c =
     let m = c.before.before.before.before in
     let a = m.before.before.before.args in
-    looks_as (found_reads a.c _ _ m.found.given.1 a.s.now c.before.if1.true) c.follow.ensures
+    looks_as (found_reads a.c _ _ m.found-1.given.1 a.s.now c.before.if-c-eq0.true) c.follow.ensures
 
-returns_2 : tie.Need-returns-2
+returns_2 : tie.Need-returns-else-c-eq0
 returns_2 c =
     let m = c.before.before.before.before in
     let a = m.before.before.before.args in
     rw c.passed.ensures
-    (looks_as (lost_passes a.c _ _ m.found.given.1 a.s.now (omega (arith, c.before.if1.false))) (passes_look a.s.now a.c))
+    (looks_as (lost_passes a.c _ _ m.found-1.given.1 a.s.now (omega (arith, c.before.if-c-eq0.false))) (passes_look a.s.now a.c))
 
-returns_3 : tie.Need-returns-3
+returns_3 : tie.Need-returns-in-BasicAt
 returns_3 c =
     let m = c.before.before in
     let a = m.before.before.before.args in
-    looks_as (ap (λ o. grown_by o a.c.lost a.c a.s.now) m.found2.given.1) c.search.ensures
+    looks_as (ap (λ o. grown_by o a.c.lost a.c a.s.now) m.found-in-BasicAt-1.given.1) c.search.ensures
 
-returns_4 : tie.Need-returns-4
+returns_4 : tie.Need-returns-in-Nothing
 returns_4 c =
     let m = c.before in
     let a = m.before.before.before.args in
-    looks_as (ap (λ o. grown_by o a.c.lost a.c a.s.now) m.enum_told.given.1)
-    (rw m.enum_told.given.1 at c.search2.ensures)
+    looks_as (ap (λ o. grown_by o a.c.lost a.c a.s.now) m.enum_told-1.given.1)
+    (rw m.enum_told-1.given.1 at c.search-in-Nothing.ensures)
 
 pub look_spec : {M : Type 1} → statement M
 look_spec =

@@ -36,22 +36,22 @@ there c =
       whole_bits a.far.now a.q a.y.used (omega (arith, u.at_most, u.at_least)) u.at_most,
     )
 
-judge_both_requires : tie.Need-judge-both-requires
+judge_both_requires : tie.Need-judge_both-errored-requires
 judge_both_requires c κs =
     let k = c.before in
     let j = k.before in
     let st = j.before.before.before.before.before in
     let f = (few st).0 in
     let g = (few_far st).0 in
-    let x : k.compared2.result ≡ compared st.args.x.used = k.compared2.ensures in
-    let y : c.compared3.result ≡ compared st.args.y.used = c.compared3.ensures in (
+    let x : k.compared.result ≡ compared st.args.x.used = k.compared.ensures in
+    let y : c.compared-2.result ≡ compared st.args.y.used = c.compared-2.ensures in (
       λ o. record { countable = omega (arith, st.requires.1); there = omega (arith, (there st).0) },
       λ o. record { countable = omega (arith, st.requires.2); there = omega (arith, (there st).1) },
       omega arith,
       omega arith,
     )
 
-far_ends_requires : tie.Need-far-ends-requires
+far_ends_requires : tie.Need-far_ends-farend-requires
 far_ends_requires c κs =
     let st = c.before.before.before.before.before.before.before.before in
     let f = (few st).0 in
@@ -70,7 +70,7 @@ gone_few c =
     omega (arith, gone_within n a.y.used a.y.lost a.gone h.0 c.requires.9, c.requires.2)
 
 -- where all is added
-abbrev start : tie.After-far-ends → tie.Start
+abbrev start : tie.After-far_ends-farend → tie.Start
 start f = f.before.before.before.before.before.before.before.before.before
 
 gaining_requires : tie.Need-gaining-requires
@@ -84,7 +84,7 @@ gaining_requires c κs =
     let a = st.args in
     let x = few st in
     let y = few_far st in (
-      small_more a.c (2 ^ 39) (2 ^ 50) (omega arith) st.pre.0,
+      small_more a.c (2 ^ 39) (2 ^ 50) (omega arith) st.requires.0,
       omega (arith, gone_few st),
       record {
         multiframes = omega arith;
@@ -92,16 +92,16 @@ gaining_requires c κs =
         errored =
             omega (
               arith,
-              j.judge-both.ensures,
-              disagreeing_few a.near.now (a.q + 2048 * k1.compared.result) (k2.compared2.result - k1.compared.result),
-              disagreeing_few a.far.now (a.q + 2048) (k3.compared3.result - 1),
-              k2.compared2.ensures,
-              k3.compared3.ensures,
+              j.judge_both-errored.ensures,
+              disagreeing_few a.near.now (a.q + 2048 * k1.compared-judged.result) (k2.compared.result - k1.compared-judged.result),
+              disagreeing_few a.far.now (a.q + 2048) (k3.compared-2.result - 1),
+              k2.compared.ensures,
+              k3.compared-2.ensures,
             );
         farend =
             omega (
               arith,
-              f.far-ends.ensures,
+              f.far_ends-farend.ensures,
               far_end_few a.near.now (a.q + 4096 * a.h) (a.x.used - a.h),
               far_end_few a.far.now (a.q + 4096) (a.y.used - 1),
             );
@@ -110,8 +110,8 @@ gaining_requires c κs =
     )
 
 -- the blocks of both
-errored : (j : tie.After-judge-both) → let a = j.before.before.before.before.before.before.before.before.args in
-    j.judge-both.result
+errored : (j : tie.After-judge_both-errored) → let a = j.before.before.before.before.before.before.before.before.args in
+    j.judge_both-errored.result
     ≡ disagreeing a.near.now (a.q + 2048 * compared a.h) (compared a.x.used - compared a.h)
     + disagreeing a.far.now (a.q + 2048) (compared a.y.used - 1)
 errored j =
@@ -119,9 +119,9 @@ errored j =
     let k2 = k3.before in
     let k1 = k2.before in
     let a = k1.before.before.before.before.before.args in
-    blocks a.near.now a.far.now a.q k1.compared.result (compared a.h) k2.compared2.result (compared a.x.used)
-    k3.compared3.result (compared a.y.used) j.judge-both.result k1.compared.ensures k2.compared2.ensures
-    k3.compared3.ensures j.judge-both.ensures
+    blocks a.near.now a.far.now a.q k1.compared-judged.result (compared a.h) k2.compared.result (compared a.x.used)
+    k3.compared-2.result (compared a.y.used) j.judge_both-errored.result k1.compared-judged.ensures k2.compared.ensures
+    k3.compared-2.ensures j.judge_both-errored.ensures
   where
     blocks : (near far : List ℕ) (q u u' v v' w w' n : ℕ) → u ≡ u' → v ≡ v' → w ≡ w'
         → n ≡ disagreeing near (q + 2048 * u) (v - u) + disagreeing far (q + 2048) (w - 1)
@@ -139,9 +139,9 @@ returns c =
     let st = start f in
     let a = st.args in
     c.gaining.ensures
-    ∙ both_line a.c a.near.now a.q a.h a.x st.pre.3 st.pre.4 st.pre.5 st.pre.6 st.pre.7 a.far.now a.y
-    st.pre.8 a.gone l.lost_by_lem.result st.pre.9 l.lost_by_lem.ensures j.judge-both.result f.far-ends.result (errored j)
-    f.far-ends.ensures
+    ∙ both_line a.c a.near.now a.q a.h a.x st.requires.3 st.requires.4 st.requires.5 st.requires.6 st.requires.7 a.far.now a.y
+    st.requires.8 a.gone l.lost_by.result st.requires.9 l.lost_by.ensures j.judge_both-errored.result f.far_ends-farend.result (errored j)
+    f.far_ends-farend.ensures
 
 pub read_both_spec : {M : Type 1} → statement M
 read_both_spec =
@@ -168,8 +168,8 @@ read_both_spec =
     (search rules)
     (λ c. let st = start c.before.before.before.before.before in omega (arith, (few st).0))
     (λ c. let st = start c.before.before.before.before.before in omega (arith, (few st).0, gone_few st))
-    (λ c. let st = start c.before.before.before.before.before.before in omega (arith, (few st).0, st.pre.0.used))
-    (λ c. let st = start c.before.before.before.before.before.before in omega (arith, st.pre.7, st.pre.4))
-    (λ c κs. let st = start c.before.before.before.before.before.before in (omega (arith, (few st).0, st.pre.0.used), omega (arith, (few_far st).1)))
+    (λ c. let st = start c.before.before.before.before.before.before in omega (arith, (few st).0, st.requires.0.used))
+    (λ c. let st = start c.before.before.before.before.before.before in omega (arith, st.requires.7, st.requires.4))
+    (λ c κs. let st = start c.before.before.before.before.before.before in (omega (arith, (few st).0, st.requires.0.used), omega (arith, (few_far st).1)))
     gaining_requires
     returns)

@@ -10,13 +10,13 @@ use Rattle.chunk.proofs.stood.Tie as tie
 never : {X : Type 0} → false ≡ true → X
 never e = absurd (subst T (sym e) tt)
 
-returns : tie.Need-returns
+returns : tie.Need-returns-in-At
 returns c =
     let f = c.before.before in
     λ e. record {
       p = _;
       k = _;
-      stands = f.found.given.1;
+      stands = f.found-1.given.1;
       not_lost = eqb-true f.before.before.args.c.lost 0 e;
     }
 

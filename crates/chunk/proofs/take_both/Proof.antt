@@ -15,131 +15,131 @@ use Rattle.chunk.proofs.TakeLaws.{has_room, takes_as, not_taken, taken_two}
 use Rattle.chunk.proofs.take_both.Statement.{statement}
 use Rattle.chunk.proofs.take_both.Tie as tie
 
-track_requires : tie.Need-track-requires
+track_requires : tie.Need-track-y-requires
 track_requires c κs =
     let st = c.before.before.before.before.before.before.before in
     let a = st.args in
     let w : 1 ≤ c.whole.result = omega (arith, st.requires.8, whole_is a.far.now a.q, c.whole.ensures) in
     (record { countable = omega (arith, st.requires.2); there = omega (arith, c.whole.ensures) }, w)
 
-abbrev start : tie.After-track → tie.Start
+abbrev start : tie.After-track-y → tie.Start
 start t = t.before.before.before.before.before.before.before.before
 
 -- what was tracked
-of_near : (t : tie.After-track) → let a = (start t).args in Tracks a.near.now a.q t.before.before.kept.result a.x
+of_near : (t : tie.After-track-y) → let a = (start t).args in Tracks a.near.now a.q t.before.before.kept-h.result a.x
 of_near t =
     let st = start t in
     let a = st.args in
-    subst (λ h. Tracks a.near.now a.q h a.x) (sym t.before.before.kept.ensures) st.pre.5
+    subst (λ h. Tracks a.near.now a.q h a.x) (sym t.before.before.kept-h.ensures) st.requires.5
 
-of_far : (t : tie.After-track) → let a = (start t).args in Tracks a.far.now a.q 1 t.track.result
+of_far : (t : tie.After-track-y) → let a = (start t).args in Tracks a.far.now a.q 1 t.track-y.result
 of_far t =
     let a = (start t).args in
-    let e = t.track.ensures in
-    tracks a.far.now a.q 1 t.before.whole.result t.track.result t.before.whole.ensures e.0 e.2 e.3 e.4 e.5 e.6
+    let e = t.track-y.ensures in
+    tracks a.far.now a.q 1 t.before.whole.result t.track-y.result t.before.whole.ensures e.0 e.2 e.3 e.4 e.5 e.6
 
-few : (t : tie.After-track) → ((start t).args.x.used ≤ 1073741824) × (t.track.result.used ≤ 1073741824)
+few : (t : tie.After-track-y) → ((start t).args.x.used ≤ 1073741824) × (t.track-y.result.used ≤ 1073741824)
 few t =
     let st = start t in
     let a = st.args in (
-      omega (arith, (tracked_few a.near.now a.q t.before.before.kept.result a.x (of_near t)).0, st.pre.1),
-      omega (arith, (tracked_few a.far.now a.q 1 t.track.result (of_far t)).0, st.pre.2),
+      omega (arith, (tracked_few a.near.now a.q t.before.before.kept-h.result a.x (of_near t)).0, st.requires.1),
+      omega (arith, (tracked_few a.far.now a.q 1 t.track-y.result (of_far t)).0, st.requires.2),
     )
 
 -- what is told
-abbrev seen_near : tie.After-track → Seen
-seen_near t = let a = (start t).args in near_seen a.c a.near.now a.q t.before.before.kept.result a.x
+abbrev seen_near : tie.After-track-y → Seen
+seen_near t = let a = (start t).args in near_seen a.c a.near.now a.q t.before.before.kept-h.result a.x
 
-near_told : (t : tie.After-track) → let a = (start t).args in Looks (read_from a.c a.near.now) a.near.now (seen_near t)
+near_told : (t : tie.After-track-y) → let a = (start t).args in Looks (read_from a.c a.near.now) a.near.now (seen_near t)
 near_told t =
     let st = start t in
     let a = st.args in
-    near_looks a.c a.near.now a.q t.before.before.kept.result a.x st.pre.4 t.before.before.kept.ensures (of_near t)
-    st.pre.6 st.pre.7
+    near_looks a.c a.near.now a.q t.before.before.kept-h.result a.x st.requires.4 t.before.before.kept-h.ensures (of_near t)
+    st.requires.6 st.requires.7
 
-abbrev then : tie.After-track → Line
+abbrev then : tie.After-track-y → Line
 then t = let a = (start t).args in (read_from (read_from a.c a.near.now).line a.far.now).line
 
-abbrev seen_far : tie.After-track → Line → ℕ → Seen
-seen_far t line gone = record { line = line; gone = gone; multiframes = t.track.result.used - 1; from = (start t).args.q + 4096 }
+abbrev seen_far : tie.After-track-y → Line → ℕ → Seen
+seen_far t line gone = record { line = line; gone = gone; multiframes = t.track-y.result.used - 1; from = (start t).args.q + 4096 }
 
-far_told : (t : tie.After-track) (line : Line) (gone : ℕ) → line ≡ then t
-    → gone ≡ gone_by (length (start t).args.far.now) t.track.result.used t.track.result.lost
+far_told : (t : tie.After-track-y) (line : Line) (gone : ℕ) → line ≡ then t
+    → gone ≡ gone_by (length (start t).args.far.now) t.track-y.result.used t.track-y.result.lost
     → let a = (start t).args in
     Looks (read_from (read_from a.c a.near.now).line a.far.now) a.far.now (seen_far t line gone)
 far_told t line gone el eg =
     let st = start t in
     let a = st.args in
-    far_looks_by a.c a.near.now a.q t.before.before.kept.result a.x st.pre.4 t.before.before.kept.ensures (of_near t)
-    st.pre.6 st.pre.7 a.far.now t.track.result (of_far t) gone
-    (lost_by (a.c.used + (a.x.used - t.before.before.kept.result) - 1) t.track.result.lost) eg refl line el
+    far_looks_by a.c a.near.now a.q t.before.before.kept-h.result a.x st.requires.4 t.before.before.kept-h.ensures (of_near t)
+    st.requires.6 st.requires.7 a.far.now t.track-y.result (of_far t) gone
+    (lost_by (a.c.used + (a.x.used - t.before.before.kept-h.result) - 1) t.track-y.result.lost) eg refl line el
 
-returns : tie.Need-returns
+returns : tie.Need-returns-then-lacks_room
 returns c =
     let k = c.before.before in
     let t = k.before.before.before in
     let a = (start t).args in
-    let gone = gone_by (length a.far.now) t.track.result.used t.track.result.lost in
+    let gone = gone_by (length a.far.now) t.track-y.result.used t.track-y.result.lost in
     rw c.lacking.ensures
     (takes_as (ap₂ after (near_told t).tells (far_told t (then t) gone refl refl).tells)
     (not_taken a.c a.fill a.window.now a.payload.now a.slot0.now
     (after (told a.near.now (seen_near t)) (told a.far.now (seen_far t (then t) gone)))
-    (sym k.lacks-room.ensures ∙ c.before.if1.true)))
+    (sym k.lacks_room.ensures ∙ c.before.if-lacks_room.true)))
 
 -- there is room
-room : (c : tie.Else1)
+room : (c : tie.Else-lacks_room)
     → let t = c.before.before.before.before in
     let a = (start t).args in
-    lacks_room (length a.payload.now) (length a.slot0.now) (a.x.used - t.before.before.kept.result + (t.track.result.used - 1)) ≡ false
-room c = sym c.before.lacks-room.ensures ∙ c.if1.false
+    lacks_room (length a.payload.now) (length a.slot0.now) (a.x.used - t.before.before.kept-h.result + (t.track-y.result.used - 1)) ≡ false
+room c = sym c.before.lacks_room.ensures ∙ c.if-lacks_room.false
 
-read_both_requires : tie.Need-read-both-requires
+read_both_requires : tie.Need-read_both-line-requires
 read_both_requires c κs =
     let t = c.before.before.before.before.before in
     let st = start t in (
-      st.pre.0,
-      st.pre.1,
-      st.pre.2,
-      st.pre.4,
-      t.before.before.kept.ensures,
+      st.requires.0,
+      st.requires.1,
+      st.requires.2,
+      st.requires.4,
+      t.before.before.kept-h.ensures,
       of_near t,
-      st.pre.6,
-      st.pre.7,
+      st.requires.6,
+      st.requires.7,
       of_far t,
-      c.gone-by.ensures,
+      c.gone_by-gone.ensures,
     )
 
-small : (t : tie.After-track) → ((start t).args.q ≤ 7) × (t.before.before.kept.result ≤ 1)
-small t = (omega (arith, (start t).requires.4), omega (arith, t.before.before.kept.ensures))
+small : (t : tie.After-track-y) → ((start t).args.q ≤ 7) × (t.before.before.kept-h.result ≤ 1)
+small t = (omega (arith, (start t).requires.4), omega (arith, t.before.before.kept-h.ensures))
 
-there : (t : tie.After-track) → let a = (start t).args in
-    (a.q + 4096 * a.x.used ≤ 8 * length a.near.now) × (a.q + 4096 * t.track.result.used ≤ 8 * length a.far.now)
+there : (t : tie.After-track-y) → let a = (start t).args in
+    (a.q + 4096 * a.x.used ≤ 8 * length a.near.now) × (a.q + 4096 * t.track-y.result.used ≤ 8 * length a.far.now)
 there t =
     let st = start t in
     let a = st.args in
     let x = of_near t in
     let y = of_far t in (
-      whole_bits a.near.now a.q a.x.used (omega (arith, x.at_most, st.pre.7)) x.at_most,
-      whole_bits a.far.now a.q t.track.result.used (omega (arith, y.at_most, y.at_least)) y.at_most,
+      whole_bits a.near.now a.q a.x.used (omega (arith, x.at_most, st.requires.7)) x.at_most,
+      whole_bits a.far.now a.q t.track-y.result.used (omega (arith, y.at_most, y.at_least)) y.at_most,
     )
 
-put_payloads_requires : tie.Need-put-payloads-requires
+put_payloads_requires : tie.Need-put_payloads-requires
 put_payloads_requires c κs =
     let e = c.before.before.before in
     let t = e.before.before.before.before in
     let st = start t in (
-      record { countable = omega (arith, st.pre.1); there = omega (arith, (there t).0, (of_near t).at_least) },
-      record { countable = omega (arith, st.pre.2); there = omega (arith, (there t).1, (of_far t).at_least) },
+      record { countable = omega (arith, st.requires.1); there = omega (arith, (there t).0, (of_near t).at_least) },
+      record { countable = omega (arith, st.requires.2); there = omega (arith, (there t).1, (of_far t).at_least) },
       (has_room _ _ _ (room e)).0,
     )
 
-put_slots0_requires : tie.Need-put-slots0-requires
+put_slots0_requires : tie.Need-put_slots0-requires
 put_slots0_requires c κs =
     let e = c.before.before.before.before.before.before.before in
     let t = e.before.before.before.before in
     let st = start t in (
-      record { countable = omega (arith, st.pre.1); there = omega (arith, (there t).0, (of_near t).at_least) },
-      record { countable = omega (arith, st.pre.2); there = omega (arith, (there t).1, (of_far t).at_least) },
+      record { countable = omega (arith, st.requires.1); there = omega (arith, (there t).0, (of_near t).at_least) },
+      record { countable = omega (arith, st.requires.2); there = omega (arith, (there t).1, (of_far t).at_least) },
       (has_room _ _ _ (room e)).1,
     )
 
@@ -149,15 +149,15 @@ keep_requires c κs =
     let t = g.before.before.before.before.before in
     let st = start t in
     let a = st.args in (
-      (far_told t (then t) g.gone-by.result refl g.gone-by.ensures).within,
+      (far_told t (then t) g.gone_by-gone.result refl g.gone_by-gone.ensures).within,
       omega (
         arith,
-        kept_few a.far.now a.q 1 t.track.result g.gone-by.result (omega (arith, (small t).0)) (of_far t) g.gone-by.ensures,
-        st.pre.3,
+        kept_few a.far.now a.q 1 t.track-y.result g.gone_by-gone.result (omega (arith, (small t).0)) (of_far t) g.gone_by-gone.ensures,
+        st.requires.3,
       ),
     )
 
-returns_2 : tie.Need-returns-2
+returns_2 : tie.Need-returns
 returns_2 c =
     let k = c.before.before in
     let o = k.before.before.before.before in
@@ -167,10 +167,10 @@ returns_2 c =
     let e = g.before in
     let t = e.before.before.before.before in
     let a = (start t).args in
-    takes_as (ap₂ after (near_told t).tells (far_told t r.read-both.result g.gone-by.result r.read-both.ensures g.gone-by.ensures).tells)
+    takes_as (ap₂ after (near_told t).tells (far_told t r.read_both-line.result g.gone_by-gone.result r.read_both-line.ensures g.gone_by-gone.ensures).tells)
     (taken_two a.c a.fill a.window.now a.payload.now a.slot0.now a.near.now a.far.now (seen_near t)
-    (seen_far t r.read-both.result g.gone-by.result) k.keep.result k.keep.ensures.0 (room e) _ _ _ k.keep.ensures.1
-    p.put-payloads.ensures o.put-slots0.ensures)
+    (seen_far t r.read_both-line.result g.gone_by-gone.result) k.keep.result k.keep.ensures.0 (room e) _ _ _ k.keep.ensures.1
+    p.put_payloads.ensures o.put_slots0.ensures)
 
 pub take_both_spec : {M : Type 1} → statement M
 take_both_spec =

@@ -19,29 +19,29 @@ long c =
     near_length a.near.now (take a.fill a.window.now) a.chunk.now a.fill a.n (full c) c.requires.4 c.requires.6
 
 -- what is kept of the first image lies in the chunk
-far : (l : tie.After-look) → let a = l.before.before.before.before.before.before.args in let g = l.look.result.gone in
+far : (l : tie.After-look-x) → let a = l.before.before.before.before.before.before.args in let g = l.look-x.result.gone in
     (a.fill ≤ g) × (g - a.fill ≤ a.n)
 far l =
     let st = l.before.before.before.before.before.before in
     let a = st.args in
     lies_in_chunk a.near.now (take a.fill a.window.now) a.chunk.now a.fill a.n (full st) st.requires.4 st.requires.6
-    a.c l.look.result l.look.ensures st.requires.7
+    a.c l.look-x.result l.look-x.ensures st.requires.7
 
-look_requires : tie.Need-look-requires
+look_requires : tie.Need-look-x-requires
 look_requires c κs =
     let st = c.before.before.before.before.before in
     (small_more st.args.c (2 ^ 39) (2 ^ 40) (omega arith) st.requires.0, omega (arith, long st, st.requires.2, st.requires.3))
 
-take_two_requires : tie.Need-take-two-requires
+take_two_requires : tie.Need-take_two-requires
 take_two_requires c κs =
     let l = c.before.before.before.before.before in
     let st = l.before.before.before.before.before.before in
-    let n = l.look.result.gone - st.args.fill in (
+    let n = l.look-x.result.gone - st.args.fill in (
       st.requires.0,
       omega (arith, long st, st.requires.2, st.requires.3),
       rw (to_end st.args.chunk.now n) (omega (arith, length-drop n st.args.chunk.now, st.requires.5)),
       st.requires.1,
-      l.look.ensures,
+      l.look-x.ensures,
     )
 
 returns : tie.Need-returns
@@ -52,12 +52,12 @@ returns c =
     let a = st.args in
     takes_as
     (cut_there a.near.now (take a.fill a.window.now) a.chunk.now a.fill a.n (full st) st.requires.4 st.requires.6
-    a.c l.look.result l.look.ensures st.requires.7)
-    t.take-two.ensures
+    a.c l.look-x.result l.look-x.ensures st.requires.7)
+    t.take_two.ensures
 
 -- the part of the chunk
-starts : (l : tie.After-look) → let a = l.before.before.before.before.before.before.args in
-    l.look.result.gone - a.fill ≤ length a.chunk.now
+starts : (l : tie.After-look-x) → let a = l.before.before.before.before.before.before.args in
+    l.look-x.result.gone - a.fill ≤ length a.chunk.now
 starts l = omega (arith, (far l).1, l.before.before.before.before.before.before.requires.4)
 
 pub take_far_spec : {M : Type 1} → statement M

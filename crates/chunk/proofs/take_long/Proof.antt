@@ -16,22 +16,22 @@ full c = filled c.args.window.now c.args.fill c.requires.1 c.requires.2
 near : (c : tie.Start) → length (take 2048 c.args.chunk.now) ≡ 2048
 near c = length-take-le 2048 c.args.chunk.now c.requires.3
 
-zeros : (i : tie.After-image) → length i.before.before.before.zeros-4096.result ≡ 4096
-zeros i = zeros_length i.before.before.before.zeros-4096.result 4096 i.before.before.before.zeros-4096.ensures
+zeros : (i : tie.After-image-1) → length i.before.before.before.zeros_4096-image.result ≡ 4096
+zeros i = zeros_length i.before.before.before.zeros_4096-image.result 4096 i.before.before.before.zeros_4096-image.ensures
 
 -- the image
-fits : (j : tie.After-join) → j.join.result ≤ 4096
+fits : (j : tie.After-join-e) → j.join-e.result ≤ 4096
 fits j =
     let st = j.before.before.before.before.before.before.before.before.before in
-    omega (arith, j.join.ensures.0, full st, near st, st.requires.2)
+    omega (arith, j.join-e.ensures.0, full st, near st, st.requires.2)
 
-long : (j : tie.After-join) → length (take j.join.result j.join.new.1.1.0) ≡ j.join.result
+long : (j : tie.After-join-e) → length (take j.join-e.result j.join-e.new.image) ≡ j.join-e.result
 long j =
     let a = j.before.before.before.before.before.before.before.before.before.args in
-    image_length (take a.fill a.window.now) (take 2048 a.chunk.now) j.join.new.1.1.0 j.join.result j.join.ensures.0
-    j.join.ensures.2
+    image_length (take a.fill a.window.now) (take 2048 a.chunk.now) j.join-e.new.image j.join-e.result j.join-e.ensures.0
+    j.join-e.ensures.2
 
-take_far_requires : tie.Need-take-far-requires
+take_far_requires : tie.Need-take_far-requires
 take_far_requires c κs =
     let j = c.before.before.before.before.before in
     let st = j.before.before.before.before.before.before.before.before.before in (
@@ -41,8 +41,8 @@ take_far_requires c κs =
       omega arith,
       st.requires.3,
       st.requires.4,
-      j.join.ensures.2,
-      grown_short st.args.c (take j.join.result j.join.new.1.1.0),
+      j.join-e.ensures.2,
+      grown_short st.args.c (take j.join-e.result j.join-e.new.image),
     )
 
 pub take_long_spec : {M : Type 1} → statement M
@@ -57,10 +57,10 @@ take_long_spec =
     (λ c κs.
     let st = c.before.before.before.before.before.before.before.before in
     omega (arith, full st, near st, zeros c, st.requires.2))
-    (λ c. let j = c.before in omega (arith, fits j, j.join.ensures.1, zeros j.before))
+    (λ c. let j = c.before in omega (arith, fits j, j.join-e.ensures.1, zeros j.before))
     (λ c. sym (long c.before.before))
     take_far_requires
     (search rules)
     (search rules)
     (search rules)
-    (λ c. c.before.before.before.before.before.before.take-far.ensures))
+    (λ c. c.before.before.before.before.before.before.take_far.ensures))

@@ -33,40 +33,40 @@ part c =
 near : (c : tie.Start) → length (take (octets c) c.args.chunk.now) ≡ octets c
 near c = length-take-le (octets c) c.args.chunk.now (part c).1
 
-zeros : (i : tie.After-image) → length i.before.before.before.zeros-2048.result ≡ 2048
-zeros i = zeros_length i.before.before.before.zeros-2048.result 2048 i.before.before.before.zeros-2048.ensures
+zeros : (i : tie.After-image-1) → length i.before.before.before.zeros_2048-image.result ≡ 2048
+zeros i = zeros_length i.before.before.before.zeros_2048-image.result 2048 i.before.before.before.zeros_2048-image.ensures
 
 -- the image
-abbrev start : tie.After-join → tie.Start
+abbrev start : tie.After-join-e → tie.Start
 start j = j.before.before.before.before.before.before.before.before.before.before
 
-is : (j : tie.After-join) → j.join.result ≡ (start j).args.fill + octets (start j)
-is j = omega (arith, j.join.ensures.0, full (start j), near (start j))
+is : (j : tie.After-join-e) → j.join-e.result ≡ (start j).args.fill + octets (start j)
+is j = omega (arith, j.join-e.ensures.0, full (start j), near (start j))
 
-fits : (j : tie.After-join) → j.join.result ≤ 1537
+fits : (j : tie.After-join-e) → j.join-e.result ≤ 1537
 fits j = omega (arith, is j, (part (start j)).0)
 
-abbrev image : tie.After-join → List ℕ
-image j = take j.join.result j.join.new.1.1.0
+abbrev image : tie.After-join-e → List ℕ
+image j = take j.join-e.result j.join-e.new.image
 
-long : (j : tie.After-join) → length (image j) ≡ j.join.result
+long : (j : tie.After-join-e) → length (image j) ≡ j.join-e.result
 long j =
     let st = start j in
     let a = st.args in
-    image_length (take a.fill a.window.now) (take (octets st) a.chunk.now) j.join.new.1.1.0 j.join.result j.join.ensures.0
-    j.join.ensures.2
+    image_length (take a.fill a.window.now) (take (octets st) a.chunk.now) j.join-e.new.image j.join-e.result j.join-e.ensures.0
+    j.join-e.ensures.2
 
 -- the start's bit
-abbrev bit : tie.After-join → ℕ
-bit j = j.before.before.before.before.before.start_of_lem.result % 8
+abbrev bit : tie.After-join-e → ℕ
+bit j = j.before.before.before.before.before.start_of-q.result % 8
 
 whole_are : (w : tie.After-whole) → let j = w.before.before.before.before in
     w.whole.result ≡ ((start j).args.fill + 511) / 512 + 1
 whole_are w =
     let j = w.before.before.before.before in
-    next_used (((start j).args.fill + 511) / 512) (bit j) j.join.result w.whole.result (omega arith) (is j ∙ ends (start j)) w.whole.ensures
+    next_used (((start j).args.fill + 511) / 512) (bit j) j.join-e.result w.whole.result (omega arith) (is j ∙ ends (start j)) w.whole.ensures
 
-track_requires : tie.Need-track-requires
+track_requires : tie.Need-track-x-requires
 track_requires c κs =
     let j = c.before.before.before.before in
     let b : bit j ≤ 7 = omega arith in (
@@ -77,31 +77,31 @@ track_requires c κs =
       omega (arith, whole_are c, c.before.kept.ensures),
     )
 
-tracked : (t : tie.After-track) → let j = t.before.before.before.before.before in
-    Tracks (image j) (bit j) (kept_of (start j).args.c.used) t.track.result
+tracked : (t : tie.After-track-x) → let j = t.before.before.before.before.before in
+    Tracks (image j) (bit j) (kept_of (start j).args.c.used) t.track-x.result
 tracked t =
     let w = t.before in
     let k = w.before in
     let j = k.before.before.before in
-    let e = t.track.ensures in
-    subst (λ h. Tracks (image j) (bit j) h t.track.result) k.kept.ensures
-    (tracks (image j) (bit j) k.kept.result w.whole.result t.track.result
+    let e = t.track-x.ensures in
+    subst (λ h. Tracks (image j) (bit j) h t.track-x.result) k.kept.ensures
+    (tracks (image j) (bit j) k.kept.result w.whole.result t.track-x.result
     (w.whole.ensures ∙ ap (λ n. (8 * n - bit j) / 4096) (sym (long j))) e.0 e.2 e.3 e.4 e.5 e.6)
 
-take_tracked_requires : tie.Need-take-tracked-requires
+take_tracked_requires : tie.Need-take_tracked-requires
 take_tracked_requires c κs =
     let t = c.before.before.before in
     let j = t.before.before.before.before.before in
     let st = start j in (
-      st.pre.0,
-      st.pre.1,
-      st.pre.2,
-      st.pre.3,
-      st.pre.4,
-      st.pre.5,
-      ap (λ n. n % 8) j.before.before.before.before.before.start_of_lem.ensures,
+      st.requires.0,
+      st.requires.1,
+      st.requires.2,
+      st.requires.3,
+      st.requires.4,
+      st.requires.5,
+      ap (λ n. n % 8) j.before.before.before.before.before.start_of-q.ensures,
       ends st,
-      j.join.ensures.2,
+      j.join-e.ensures.2,
       tracked t,
     )
 
@@ -122,7 +122,7 @@ take_on_spec =
     (λ c κs.
     let st = c.before.before.before.before.before.before.before.before.before in
     omega (arith, full st, near st, zeros c, (part st).0))
-    (λ c. let j = c.before in omega (arith, fits j, j.join.ensures.1, zeros j.before))
+    (λ c. let j = c.before in omega (arith, fits j, j.join-e.ensures.1, zeros j.before))
     (λ c. sym (long c.before.before))
     (search rules)
     (λ c κs. omega (arith, fits c.before.before.before))
@@ -131,4 +131,4 @@ take_on_spec =
     (search rules)
     (search rules)
     (search rules)
-    (λ c. c.before.before.before.before.before.before.take-tracked.ensures))
+    (λ c. c.before.before.before.before.before.before.take_tracked.ensures))

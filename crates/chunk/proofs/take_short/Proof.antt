@@ -13,22 +13,22 @@ use Rattle.chunk.proofs.take_short.Tie as tie
 full : (c : tie.Start) → length (take c.args.fill c.args.window.now) ≡ c.args.fill
 full c = filled c.args.window.now c.args.fill c.requires.1 (omega (arith, c.requires.2))
 
-zeros : (i : tie.After-image) → length i.before.before.zeros-2048.result ≡ 2048
-zeros i = zeros_length i.before.before.zeros-2048.result 2048 i.before.before.zeros-2048.ensures
+zeros : (i : tie.After-image-1) → length i.before.before.zeros_2048-image.result ≡ 2048
+zeros i = zeros_length i.before.before.zeros_2048-image.result 2048 i.before.before.zeros_2048-image.ensures
 
 -- the image
-fits : (j : tie.After-join) → j.join.result ≤ 2048
+fits : (j : tie.After-join-n) → j.join-n.result ≤ 2048
 fits j =
     let st = j.before.before.before.before.before.before.before.before in
-    omega (arith, j.join.ensures.0, full st, st.requires.2)
+    omega (arith, j.join-n.ensures.0, full st, st.requires.2)
 
-long : (j : tie.After-join) → length (take j.join.result j.join.new.1.1.0) ≡ j.join.result
+long : (j : tie.After-join-n) → length (take j.join-n.result j.join-n.new.image) ≡ j.join-n.result
 long j =
     let a = j.before.before.before.before.before.before.before.before.args in
-    image_length (take a.fill a.window.now) a.chunk.now j.join.new.1.1.0 j.join.result j.join.ensures.0
-    j.join.ensures.2
+    image_length (take a.fill a.window.now) a.chunk.now j.join-n.new.image j.join-n.result j.join-n.ensures.0
+    j.join-n.ensures.2
 
-take_image_requires : tie.Need-take-image-requires
+take_image_requires : tie.Need-take_image-requires
 take_image_requires c κs =
     let j = c.before.before.before.before.before in
     let st = j.before.before.before.before.before.before.before.before in
@@ -39,7 +39,7 @@ returns c =
     let t = c.before.before.before.before.before.before in
     let j = t.before.before.before.before.before.before in
     let a = j.before.before.before.before.before.before.before.before.args in
-    takes_as (ap (grown a.c) (sym j.join.ensures.2)) t.take-image.ensures
+    takes_as (ap (grown a.c) (sym j.join-n.ensures.2)) t.take_image.ensures
 
 pub take_short_spec : {M : Type 1} → statement M
 take_short_spec =
@@ -50,7 +50,7 @@ take_short_spec =
     (λ c. sym (full c.before.before.before.before.before.before))
     (λ c. sym (zeros c))
     (λ c κs. let st = c.before.before.before.before.before.before.before in omega (arith, full st, zeros c, st.requires.2))
-    (λ c. let j = c.before in omega (arith, fits j, j.join.ensures.1, zeros j.before))
+    (λ c. let j = c.before in omega (arith, fits j, j.join-n.ensures.1, zeros j.before))
     (λ c. sym (long c.before.before))
     take_image_requires
     (search rules)

@@ -28,7 +28,7 @@ long c =
     let a = c.args in
     near_length a.near.now (take a.fill a.window.now) a.chunk.now a.fill a.n (full c) (part c).1 c.requires.8
 
-take_far_requires : tie.Need-take-far-requires
+take_far_requires : tie.Need-take_far-requires
 take_far_requires c κs =
     let t = c.before.before.before in
     let st = t.before.before.before.before.before.before.before in
@@ -36,7 +36,7 @@ take_far_requires c κs =
     let s = st.requires.1 in
     let e : length (grown a.c a.near.now).window ≡ 0 =
     ap (λ (y : Grown). length y.window) (found_reads a.c s.p s.k s.stands a.near.now s.not_lost)
-    ∙ lost_keeps_none a.c a.near.now a.q a.x st.requires.6 st.requires.9 t.if1.true in (
+    ∙ lost_keeps_none a.c a.near.now a.q a.x st.requires.6 st.requires.9 t.if-x-ne0.true in (
       st.requires.0,
       st.requires.2,
       omega (arith, st.requires.3),
@@ -48,27 +48,27 @@ take_far_requires c κs =
     )
 
 -- without a loss
-abbrev start : tie.Else1 → tie.Start
+abbrev start : tie.Else-x-ne0 → tie.Start
 start e = e.before.before.before.before.before.before.before
 
-used : (e : tie.Else1) → (start e).args.x.used ≡ ((start e).args.fill + 511) / 512 + 1
+used : (e : tie.Else-x-ne0) → (start e).args.x.used ≡ ((start e).args.fill + 511) / 512 + 1
 used e =
     let st = start e in
     let a = st.args in
-    next_used ((a.fill + 511) / 512) a.q (length a.near.now) a.x.used (omega (arith, st.pre.6)) (long st ∙ st.pre.7)
-    (used_all a.near.now a.q (kept_of a.c.used) a.x st.pre.9 e.if1.false ∙ whole_is a.near.now a.q)
+    next_used ((a.fill + 511) / 512) a.q (length a.near.now) a.x.used (omega (arith, st.requires.6)) (long st ∙ st.requires.7)
+    (used_all a.near.now a.q (kept_of a.c.used) a.x st.requires.9 e.if-x-ne0.false ∙ whole_is a.near.now a.q)
 
 -- what is let go
-gone : (e : tie.Else1) → let a = (start e).args in
+gone : (e : tie.Else-x-ne0) → let a = (start e).args in
     (1 ≤ a.x.used) × (a.fill ≤ 512 * (a.x.used - 1)) × (512 * (a.x.used - 1) ≤ 1024)
 gone e =
     let h = next_holds (start e).args.fill (start e).requires.3 in
     (omega (arith, used e), omega (arith, used e, h.0), omega (arith, used e, h.1))
 
-from : (e : tie.Else1) → let a = (start e).args in 512 * (a.x.used - 1) - a.fill ≤ length a.chunk.now
+from : (e : tie.Else-x-ne0) → let a = (start e).args in 512 * (a.x.used - 1) - a.fill ≤ length a.chunk.now
 from e = omega (arith, (gone e).1, (gone e).2, (start e).requires.4)
 
-take_both_requires : tie.Need-take-both-requires
+take_both_requires : tie.Need-take_both-requires
 take_both_requires c κs =
     let e = c.before.before.before.before.before in
     let st = start e in
@@ -76,18 +76,18 @@ take_both_requires c κs =
     let n = 512 * (a.x.used - 1) - a.fill in
     let far = to_end a.chunk.now n in
     let rest = length-drop n a.chunk.now in (
-      st.pre.0,
+      st.requires.0,
       omega (arith, long st, (part st).0),
-      rw far (omega (arith, rest, st.pre.5)),
-      st.pre.2,
-      st.pre.6,
-      st.pre.9,
-      e.if1.false,
+      rw far (omega (arith, rest, st.requires.5)),
+      st.requires.2,
+      st.requires.6,
+      st.requires.9,
+      e.if-x-ne0.false,
       (gone e).0,
-      rw (far, whole_is) (omega (arith, rest, (gone e).1, (gone e).2, st.pre.4, st.pre.6)),
+      rw (far, whole_is) (omega (arith, rest, (gone e).1, (gone e).2, st.requires.4, st.requires.6)),
     )
 
-returns_2 : tie.Need-returns-2
+returns_2 : tie.Need-returns
 returns_2 c =
     let t = c.before.before.before.before.before.before in
     let e = t.before.before.before.before.before.before in
@@ -95,8 +95,8 @@ returns_2 c =
     let a = st.args in
     takes_as
     (cut_both a.c a.near.now (take a.fill a.window.now) a.chunk.now a.fill a.n a.q a.x (full st) (part st).1
-    st.pre.8 st.pre.1 st.pre.6 st.pre.9 e.if1.false (gone e).0 (gone e).1)
-    t.take-both.ensures
+    st.requires.8 st.requires.1 st.requires.6 st.requires.9 e.if-x-ne0.false (gone e).0 (gone e).1)
+    t.take_both.ensures
 
 pub take_tracked_spec : {M : Type 1} → statement M
 take_tracked_spec =
@@ -106,7 +106,7 @@ take_tracked_spec =
     (search rules)
     (search rules)
     (search rules)
-    (λ c. c.before.before.before.before.before.before.take-far.ensures)
+    (λ c. c.before.before.before.before.before.before.take_far.ensures)
     (λ c. (gone c.before).0)
     (λ c. omega (arith, (gone c.before).2))
     (λ c. (gone c.before).1)

@@ -13,7 +13,7 @@ use Rattle.chunk.proofs.TakeLaws.{has_room, takes_as, not_taken, taken_two, kept
 use Rattle.chunk.proofs.take_two.Statement.{statement}
 use Rattle.chunk.proofs.take_two.Tie as tie
 
-look_requires : tie.Need-look-requires
+look_requires : tie.Need-look-y-requires
 look_requires c κs =
     let st = c.before.before.before.before.before.before in
     let a = st.args in (
@@ -23,19 +23,19 @@ look_requires c κs =
     )
 
 -- the multiframes of both are few
-few : (l : tie.After-look) → let st = l.before.before.before.before.before.before.before in
-    (st.args.x.multiframes ≤ 1073741824) × (l.look.result.multiframes ≤ 1073741824)
+few : (l : tie.After-look-y) → let st = l.before.before.before.before.before.before.before in
+    (st.args.x.multiframes ≤ 1073741824) × (l.look-y.result.multiframes ≤ 1073741824)
 few l =
     let st = l.before.before.before.before.before.before.before in
-    (omega (arith, st.requires.4.there, st.requires.1), omega (arith, l.look.ensures.there, st.requires.2))
+    (omega (arith, st.requires.4.there, st.requires.1), omega (arith, l.look-y.ensures.there, st.requires.2))
 
 -- what both tell
-both : (l : tie.After-look) → let a = l.before.before.before.before.before.before.before.args in
+both : (l : tie.After-look-y) → let a = l.before.before.before.before.before.before.before.args in
     after (grown a.c a.near.now) (grown a.x.line a.far.now)
-    ≡ after (told a.near.now a.x) (told a.far.now l.look.result)
-both l = ap₂ after l.before.before.before.before.before.before.before.requires.4.tells l.look.ensures.tells
+    ≡ after (told a.near.now a.x) (told a.far.now l.look-y.result)
+both l = ap₂ after l.before.before.before.before.before.before.before.requires.4.tells l.look-y.ensures.tells
 
-returns : tie.Need-returns
+returns : tie.Need-returns-then-lacks_room
 returns c =
     let k = c.before.before in
     let l = k.before in
@@ -43,33 +43,33 @@ returns c =
     rw c.lacking.ensures
     (takes_as (both l)
     (not_taken a.c a.fill a.window.now a.payload.now a.slot0.now
-    (after (told a.near.now a.x) (told a.far.now l.look.result))
-    (sym k.lacks-room.ensures ∙ c.before.if1.true)))
+    (after (told a.near.now a.x) (told a.far.now l.look-y.result))
+    (sym k.lacks_room.ensures ∙ c.before.if-lacks_room.true)))
 
 -- there is room
-room : (c : tie.Else1)
+room : (c : tie.Else-lacks_room)
     → let l = c.before.before in
     let a = l.before.before.before.before.before.before.before.args in
-    lacks_room (length a.payload.now) (length a.slot0.now) (a.x.multiframes + l.look.result.multiframes) ≡ false
-room c = sym c.before.lacks-room.ensures ∙ c.if1.false
+    lacks_room (length a.payload.now) (length a.slot0.now) (a.x.multiframes + l.look-y.result.multiframes) ≡ false
+room c = sym c.before.lacks_room.ensures ∙ c.if-lacks_room.false
 
-put_payloads_requires : tie.Need-put-payloads-requires
+put_payloads_requires : tie.Need-put_payloads-requires
 put_payloads_requires c κs =
     let e = c.before in
     let l = e.before.before in
     let st = l.before.before.before.before.before.before.before in (
       record { countable = omega (arith, st.requires.1); there = st.requires.4.there },
-      record { countable = omega (arith, st.requires.2); there = l.look.ensures.there },
+      record { countable = omega (arith, st.requires.2); there = l.look-y.ensures.there },
       (has_room _ _ _ (room e)).0,
     )
 
-put_slots0_requires : tie.Need-put-slots0-requires
+put_slots0_requires : tie.Need-put_slots0-requires
 put_slots0_requires c κs =
     let e = c.before.before.before.before.before in
     let l = e.before.before in
     let st = l.before.before.before.before.before.before.before in (
       record { countable = omega (arith, st.requires.1); there = st.requires.4.there },
-      record { countable = omega (arith, st.requires.2); there = l.look.ensures.there },
+      record { countable = omega (arith, st.requires.2); there = l.look-y.ensures.there },
       (has_room _ _ _ (room e)).1,
     )
 
@@ -78,11 +78,11 @@ keep_requires c κs =
     let e = c.before.before.before.before.before.before.before.before.before.before in
     let l = e.before.before in
     let st = l.before.before.before.before.before.before.before in (
-      l.look.ensures.within,
-      omega (arith, kept_short st.args.x.line st.args.far.now l.look.result l.look.ensures, st.requires.3),
+      l.look-y.ensures.within,
+      omega (arith, kept_short st.args.x.line st.args.far.now l.look-y.result l.look-y.ensures, st.requires.3),
     )
 
-returns_2 : tie.Need-returns-2
+returns_2 : tie.Need-returns
 returns_2 c =
     let k = c.before.before in
     let o = k.before.before.before.before.before in
@@ -92,8 +92,8 @@ returns_2 c =
     let a = l.before.before.before.before.before.before.before.args in
     takes_as (both l)
     (taken_two a.c a.fill a.window.now a.payload.now a.slot0.now a.near.now a.far.now a.x
-    l.look.result k.keep.result k.keep.ensures.0 (room e) _ _ _ k.keep.ensures.1 p.put-payloads.ensures
-    o.put-slots0.ensures)
+    l.look-y.result k.keep.result k.keep.ensures.0 (room e) _ _ _ k.keep.ensures.1 p.put_payloads.ensures
+    o.put_slots0.ensures)
 
 pub take_two_spec : {M : Type 1} → statement M
 take_two_spec =
