@@ -2,7 +2,7 @@
 use Prim.Native.Nat.{◌+◌, ◌-◌, ◌≤◌}
 use mathlib.Core.Path.{◌≡◌, refl, sym, ◌∙◌}
 use mathlib.Core.Bool.{true, false}
-use mathlib.Core.Logic.{⊎_elim, inl, inr}
+use mathlib.Core.Logic.{inl, inr}
 use native.Mathlib.Omega.{arith}
 use borrow.Author.Tests.{eq-eqb, ne_eqb}
 use lib.ListN.{length}
@@ -11,6 +11,7 @@ use Rattle.signals.specs.Follow.{begins}
 use Rattle.signals.proofs.Through.{Through, none_through, first_now, through_more, through_cut, through_lost, through_all}
 use Rattle.signals.proofs.follow.Statement.{statement}
 use Rattle.signals.proofs.follow.Tie as tie
+use Rattle.signals.proofs.follow.Lts.{else-first-eq0, then-first-eq0}
 
 abbrev invariant_loop : tie.invariant-loop-f
 invariant_loop t multiframes₀ starts₀ first₀ losses₀ held₀ wrong₀ f₀ multiframes starts first losses held wrong f =
@@ -29,9 +30,7 @@ first_known : (c : tie.Joined-first-eq0 invariant_loop decreases_loop)
     → (let l = c.before.before.before.before in c.if-first-eq0.first ≡ first_in l.before.before.args.t.now (l.loop-f.f + 1))
 first_known c =
     let l = c.before.before.before.before.loop-f in
-    ⊎_elim (λ o. first_now l.invariant.0 true (begun c.before) c.if-first-eq0.first (inl (eq-eqb l.first 0 o.0.taken, o.1)))
-    (λ o. first_now l.invariant.0 true (begun c.before) c.if-first-eq0.first (inr (ne_eqb l.first 0 o.0.left, o.1)))
-    c.if-first-eq0.branch
+    elim c.if-first-eq0.branch [ then-first-eq0 o ↦ first_now l.invariant.0 true (begun c.before) c.if-first-eq0.first (inl (eq-eqb l.first 0 o.if-first-eq0.true, o.first-is)) | else-first-eq0 o ↦ first_now l.invariant.0 true (begun c.before) c.if-first-eq0.first (inr (ne_eqb l.first 0 o.if-first-eq0.false, o.first-is)) ]
 
 -- it is whole
 fits : (c : tie.Else-t-f-lt16 invariant_loop decreases_loop)

@@ -29,7 +29,7 @@ loop_again : tie.Need-loop-m-preserved invariant_loop decreases_loop
 loop_again c =
     let w = c.before.before in
     let l = w.before.before.before.before in
-    filled_more l.loop-m.invariant (omega arith) w.put_channels.new.1.0 w.put_channels.ensures c.before.out-1.given.1
+    filled_more l.loop-m.invariant (omega arith) w.put_channels.new.out w.put_channels.ensures c.before.out-1.given.1
 
 pub put_abcd_spec : {M : Type 1} → statement M
 put_abcd_spec =

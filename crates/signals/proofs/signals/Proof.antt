@@ -52,12 +52,12 @@ short c =
 
 -- what is found in them
 abbrev taken : tie.After-follow-found → tie.After-slot16_of-octets
-taken c = c.before.before.before.before
+taken c = c.before.before.before
 
 found : (c : tie.After-follow-found) → c.follow-found.result ≡ followed (t (taken c))
 found c = c.follow-found.ensures ∙ ap followed (slots (taken c))
 
-mul_if2 : tie.Need-overflow-mul-if2
+mul_if2 : tie.Need-overflow_mul-found
 mul_if2 c = omega (arith, found_few (t (taken c.before)) c.before.follow-found.result (found c.before) (short (taken c.before)))
 
 returns_2 : tie.Need-returns-then-out-found
@@ -82,24 +82,24 @@ fits c =
 
 xy_requires : tie.Need-xy-xy-requires
 xy_requires c κs =
-    let f = c.before.before.before.before in
+    let f = c.before.before.before in
     rw (slots (taken f)) (short (taken f), found f)
 
 put_abcd_requires : tie.Need-put_abcd-requires
 put_abcd_requires c κs =
-    let e = c.before.before.before.before.before.before in
+    let e = c.before.before.before.before in
     let f = e.before.before in
     rw (slots (taken f)) (short (taken f), found f, fits e)
 
 returns_3 : tie.Need-returns
 returns_3 c =
     let w = c.before.before.before in
-    let x = w.before.before.before.before in
-    let e = x.before.before.before in
+    let x = w.before.before.before in
+    let e = x.before.before in
     let f = e.before.before in
     let g = taken f in
     let a = (start g.before.before.before).args in
-    accepted_as a.image.now a.out.now _ w.put_abcd.new.1.1.0
+    accepted_as a.image.now a.out.now _ w.put_abcd.new.out
     (placed_then a.image.now (length a.out.now) (there g.before).none false
     (le-ltb (length a.out.now) (filled (t g)) (fits e)))
     (answer_found (t g) f.follow-found.result x.xy-xy.result (found f) (rw (slots g) at x.xy-xy.ensures))
@@ -116,18 +116,18 @@ signals_spec =
     (λ c. omega (arith, (there c.before.before).few))
     (search rules)
     (search rules)
-    (λ c. omega (arith, (there c.before.before.before).few))
-    (λ c κs. let g = c.before.before.before in rw (slots g) (short g))
+    (λ c. omega (arith, (there c.before.before).few))
+    (λ c κs. let g = c.before.before in rw (slots g) (short g))
     mul_if2
     (search rules)
     returns_2
     (search rules)
     (search rules)
-    (λ c. omega (arith, (there (taken c.before.before.before).before).few))
+    (λ c. omega (arith, (there (taken c.before.before).before).few))
     xy_requires
     (search rules)
     (search rules)
-    (λ c. omega (arith, (there (taken c.before.before.before.before.before.before).before).few))
+    (λ c. omega (arith, (there (taken c.before.before.before.before).before).few))
     put_abcd_requires
     (search rules)
     returns_3)
