@@ -307,8 +307,7 @@ fn give_pair(number: u64, value: u64, answer: &mut [u64; 16])
 }
 
 // an image is read
-#[unsafe(no_mangle)]
-pub extern "C" fn jk_read(
+pub fn jk_read(
     image: &[u8],
     payload: &mut [u8],
     slot0: &mut [u8],
@@ -323,16 +322,14 @@ pub extern "C" fn jk_read(
 }
 
 // a stream begins
-#[unsafe(no_mangle)]
-pub extern "C" fn jk_stream_start(stream: &mut [u8; 2144])
+pub fn jk_stream_start(stream: &mut [u8; 2144])
     ensures { JkStreamStart stream.new }
 {
     *stream = [0; 2144];
 }
 
 // a stream is fed a chunk
-#[unsafe(no_mangle)]
-pub extern "C" fn jk_feed(
+pub fn jk_feed(
     stream: &mut [u8; 2144],
     chunk: &[u8],
     payload: &mut [u8],
@@ -348,8 +345,7 @@ pub extern "C" fn jk_feed(
 }
 
 // a stream is ended
-#[unsafe(no_mangle)]
-pub extern "C" fn jk_end(stream: &mut [u8; 2144], answer: &mut [u64; 16]) -> u64
+pub fn jk_end(stream: &mut [u8; 2144], answer: &mut [u64; 16]) -> u64
     ensures { JkEnd stream.old result stream.new answer.new }
 {
     let ended = stream::end(unpack_stream(stream));
@@ -363,8 +359,7 @@ pub extern "C" fn jk_end(stream: &mut [u8; 2144], answer: &mut [u64; 16]) -> u64
 }
 
 // the signalling of an image is read
-#[unsafe(no_mangle)]
-pub extern "C" fn jk_signals(image: &[u8], abcd: &mut [u8], answer: &mut [u64; 16]) -> u64
+pub fn jk_signals(image: &[u8], abcd: &mut [u8], answer: &mut [u64; 16]) -> u64
     ensures { JkSignals image.now abcd.old result abcd.new answer.new }
 {
     let r = signals::signals(image, abcd);
@@ -373,16 +368,14 @@ pub extern "C" fn jk_signals(image: &[u8], abcd: &mut [u8], answer: &mut [u64; 1
 }
 
 // a place of an image is asked about
-#[unsafe(no_mangle)]
-pub extern "C" fn jk_why(image: &[u8], place: u64, answer: &mut [u64; 16]) -> u64
+pub fn jk_why(image: &[u8], place: u64, answer: &mut [u64; 16]) -> u64
     ensures { JkWhy image.now place result answer.new }
 {
     give_why(align::ask::why(image, place), answer)
 }
 
 // multiframes are written
-#[unsafe(no_mangle)]
-pub extern "C" fn jk_write(
+pub fn jk_write(
     payload: &[u8],
     overhead: &[u8],
     check: u64,
@@ -398,8 +391,7 @@ pub extern "C" fn jk_write(
 }
 
 // multiframes are written with signalling
-#[unsafe(no_mangle)]
-pub extern "C" fn jk_write_signalled(
+pub fn jk_write_signalled(
     payload: &[u8],
     overhead: &[u8],
     check: u64,
@@ -417,16 +409,14 @@ pub extern "C" fn jk_write_signalled(
 }
 
 // a state begins
-#[unsafe(no_mangle)]
-pub extern "C" fn jk_start(state: &mut [u8; 99])
+pub fn jk_start(state: &mut [u8; 99])
     ensures { JkStart state.new }
 {
     *state = pack(exchange::start());
 }
 
 // a host record
-#[unsafe(no_mangle)]
-pub extern "C" fn jk_host(state: &mut [u8; 99], octets: &[u8], answer: &mut [u64; 16]) -> u64
+pub fn jk_host(state: &mut [u8; 99], octets: &[u8], answer: &mut [u64; 16]) -> u64
     ensures { JkHost state.old octets.now result state.new answer.new }
 {
     let a = exchange::host(unpack(state), octets);
@@ -438,24 +428,21 @@ pub extern "C" fn jk_host(state: &mut [u8; 99], octets: &[u8], answer: &mut [u64
 }
 
 // the key, to a position
-#[unsafe(no_mangle)]
-pub extern "C" fn jk_key(state: &mut [u8; 99], position: u64) -> u64
+pub fn jk_key(state: &mut [u8; 99], position: u64) -> u64
     ensures { JkKey state.old position result state.new }
 {
     store(exchange::key(unpack(state), position), state)
 }
 
 // a multiframe boundary
-#[unsafe(no_mangle)]
-pub extern "C" fn jk_boundary(state: &mut [u8; 99]) -> u64
+pub fn jk_boundary(state: &mut [u8; 99]) -> u64
     ensures { JkBoundary state.old result state.new }
 {
     store(exchange::boundary(unpack(state)), state)
 }
 
 // a payload through the live map, the state only looked at
-#[unsafe(no_mangle)]
-pub extern "C" fn jk_map(state: &[u8; 99], payload: &[u8], out: &mut [u8]) -> u64
+pub fn jk_map(state: &[u8; 99], payload: &[u8], out: &mut [u8]) -> u64
     ensures { JkMap state.now payload.now out.old result out.new }
 {
     exchange::map_payload(unpack(state), payload, out)

@@ -18,8 +18,7 @@ fn give_t1_reading(r: Reading, answer: &mut [u64; 16])
 }
 
 // an image is read
-#[unsafe(no_mangle)]
-pub extern "C" fn jk_t1_read(
+pub fn jk_t1_read(
     image: &[u8],
     payload: &mut [u8],
     link: &mut [u8],
@@ -34,8 +33,7 @@ pub extern "C" fn jk_t1_read(
 }
 
 // superframes are written
-#[unsafe(no_mangle)]
-pub extern "C" fn jk_t1_write(
+pub fn jk_t1_write(
     payload: &[u8],
     link: &[u8],
     check: u64,
@@ -51,8 +49,7 @@ pub extern "C" fn jk_t1_write(
 }
 
 // superframes are written with signalling
-#[unsafe(no_mangle)]
-pub extern "C" fn jk_t1_write_signalled(
+pub fn jk_t1_write_signalled(
     payload: &[u8],
     link: &[u8],
     check: u64,

@@ -6,11 +6,11 @@ use borrow.Author.Tests.{le-leb, lt-leb}
 use Rattle.heard.proofs.channel.Statement.{statement}
 use Rattle.heard.proofs.channel.Tie as tie
 
-returns : tie.Need-returns
-returns c = let a = c.before.before.args in rw (le-leb a.c 15 c.if1.true, zero-add a.c)
+returns : tie.Need-returns-then-c-le15
+returns c = let a = c.before.before.args in rw (le-leb a.c 15 c.if-c-le15.true, zero-add a.c)
 
-returns_2 : tie.Need-returns-2
-returns_2 c = let a = c.before.before.args in rw (lt-leb a.c 15 c.if1.false, zero-add (a.c - 15))
+returns_2 : tie.Need-returns
+returns_2 c = let a = c.before.before.args in rw (lt-leb a.c 15 c.if-c-le15.false, zero-add (a.c - 15))
 
 pub channel_spec : {M : Type 1} → statement M
 channel_spec =

@@ -30,24 +30,24 @@ all_moved row octet l =
     (tab_of 15 (λ j. get_or row (j + 1) 0) (drop 1 row) (omega (arith, length-drop 1 row))
     (λ j h. let e : j + 1 ≡ 1 + j = omega arith in ap (λ i. get_or row i 0) e ∙ sym (get_or-drop 1 row j 0)))
 
-abbrev invariant_loop : tie.invariant_loop
+abbrev invariant_loop : tie.invariant-loop-i
 invariant_loop octet row next₀ i₀ next i = (i ≤ 15) × (next ≡ moving row octet i)
 
-abbrev decreases_loop : tie.decreases_loop
+abbrev decreases_loop : tie.decreases-loop-i
 decreases_loop octet row next₀ i₀ next i = 15 - i
 
-loop_again : tie.Need-loop-preserved invariant_loop decreases_loop
+loop_again : tie.Need-loop-i-preserved invariant_loop decreases_loop
 loop_again c =
-    let l = c.before.loop in
+    let l = c.before.loop-i in
     let a = c.before.before.args in
-    (omega arith, ap (λ d. set d l.i (get_or a.t1 (l.i + 1) 0)) l.invariant.1 ∙ one_moved a.t1 a.octet l.i (omega arith))
+    (omega arith, ap (λ d. set d l.i (get_or a.row (l.i + 1) 0)) l.invariant.1 ∙ one_moved a.row a.octet l.i (omega arith))
 
 returns : tie.Need-returns invariant_loop decreases_loop
 returns c =
-    let l = c.before.loop in
+    let l = c.before.loop-i in
     let a = c.before.before.args in
     let e : l.i ≡ 15 = omega arith in
-    l.invariant.1 ∙ ap (moving a.t1 a.octet) e ∙ all_moved a.t1 a.octet (omega arith)
+    l.invariant.1 ∙ ap (moving a.row a.octet) e ∙ all_moved a.row a.octet (omega arith)
 
 pub moved_spec : {M : Type 1} → statement M
 unfolding tab_from

@@ -17,17 +17,17 @@ returns c =
     let k₁ = k₂.before.before in
     let m = k₁.before.before.before in
     let a = m.before.before.args in
-    let xy = c.chosen-octet.ensures ∙ ap (λ r. if eqb a.passed 16 then get_or r 0 0 else a.h.xy) m.moved.ensures in
+    let xy = c.chosen_octet.ensures ∙ ap (λ r. if eqb a.passed 16 then get_or r 0 0 else a.h.xy) m.moved-row.ensures in
     λ i.
     record {
       frames = a.h.frames + 1;
       passed = a.passed;
       wrong = a.wrong;
       multiframes = k₁.chosen.ensures i;
-      first = k₂.chosen2.ensures i;
-      losses = k₃.chosen3.ensures i;
+      first = k₂.chosen-2.ensures i;
+      losses = k₃.chosen-3.ensures i;
       xy = xy i;
-      row = m.moved.ensures i;
+      row = m.moved-row.ensures i;
     }
 
 pub tallied_spec : {M : Type 1} → statement M
