@@ -1,5 +1,5 @@
 //! Links the proved library, `libjikhvanto.a`: from the folder that
-//! JIKHVANTO_LIB_DIR names, or from where `rt staticlib jikhvanto` leaves it.
+//! JIKHVANTO_LIB_DIR names, or from where `tools/library` leaves it.
 
 use std::env;
 use std::path::{Path, PathBuf};
@@ -21,7 +21,7 @@ fn main() {
     }
     if !library.exists() {
         fail(&format!(
-            "no {}: `rt staticlib jikhvanto` makes it, JIKHVANTO_LIB_DIR names another folder",
+            "no {}: `tools/library` makes it, JIKHVANTO_LIB_DIR names another folder",
             library.display()
         ));
     }
