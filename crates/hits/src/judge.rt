@@ -4,7 +4,7 @@ ghost use Rattle.crc.specs.Share.{distance};
 ghost use Rattle.hits.specs.Verdict.{verdict, form_of};
 
 // of a block: how many bits, each how many-th is no data bit, after how many bits shares come round, how many bits a check has
-#[derive(Drop)]
+#[derive(Clone, Copy)]
 pub struct Form {
     pub bits: usize,
     pub every: usize,
@@ -31,7 +31,7 @@ pub fn form_of(t1: bool) -> Form
     }
 }
 
-#[derive(Drop)]
+#[derive(Clone, Copy)]
 pub enum Verdict {
     Outside,
     NoData { bit: usize },

@@ -1,6 +1,7 @@
 // Says of two hits on data bits of one block whether the check sees them, and what each of the bits adds to the check. The
 // bits are the arguments; with `--t1` before them the block is a superframe of T1.
 #![tactic(auto)]
+
 mod judge;
 mod share;
 
@@ -8,12 +9,14 @@ ghost use Rattle.std.specs.Prelude.{◌<◌, ◌≤◌};
 ghost use Rattle.hits.specs.Verdict.{form_of};
 
 use judge::Verdict;
-use libc::{STDERR_FILENO, STDOUT_FILENO};
 use pen::Pen;
+use program::say_number;
 use program::text::Spelt;
+use std::io::{Write, writer};
+use std::rt::Env;
 
 // r, in as many bits as a check has
-fn bits(pen: Pen, t1: bool, r: usize) -> Pen {
+fn bits<W: Write + Drop>(pen: Pen<W>, t1: bool, r: usize) -> Pen<W> {
     let digits = [
         b'0' + (r / 32 % 2) as u8,
         b'0' + (r / 16 % 2) as u8,
@@ -27,7 +30,7 @@ fn bits(pen: Pen, t1: bool, r: usize) -> Pen {
 }
 
 // what both bits add to the check, and the end of the output
-fn shares(pen: Pen, t1: bool, a: usize, b: usize)
+fn shares<W: Write + Drop>(pen: Pen<W>, t1: bool, a: usize, b: usize)
     requires { (a < (form_of t1).bits) × (b < (form_of t1).bits) }
 {
     let first = share::share_of(t1, a);
@@ -51,44 +54,53 @@ fn say_outside(t1: bool) {
 }
 
 fn say_no_data(t1: bool, bit: usize) {
-    let pen = Pen::new(STDERR_FILENO);
     if t1 {
-        pen.fill(
-            b"hits: bit % is a framing bit: it counts as 1 in its own superframe, hit or not; \
-              where it carries a check, a hit on it shows in the superframe before\n",
-            &[bit],
+        say_number(
+            b"hits",
+            b"bit ",
+            bit as u64,
+            b" is a framing bit: it counts as 1 in its own superframe, hit or not; \
+              where it carries a check, a hit on it shows in the superframe before",
         );
         return;
     }
-    pen.fill(
-        b"hits: bit % is a check bit: it counts as 0 in its own block, hit or not; a hit on it shows in the block before\n",
-        &[bit],
+    say_number(
+        b"hits",
+        b"bit ",
+        bit as u64,
+        b" is a check bit: it counts as 0 in its own block, hit or not; a hit on it shows in the block before",
     );
 }
 
 fn say_one_bit(bit: usize) {
-    Pen::new(STDERR_FILENO).fill(b"hits: two hits on bit % leave it as it was\n", &[bit]);
+    say_number(
+        b"hits",
+        b"two hits on bit ",
+        bit as u64,
+        b" leave it as it was",
+    );
 }
 
 // the first line of the output
-fn unseen(t1: bool, apart: usize) -> Pen {
+fn unseen<W: Write + Drop>(pen: Pen<W>, t1: bool, apart: usize) -> Pen<W> {
     let order = judge::form_of(t1).order;
     let times = apart / order;
-    Pen::new(STDOUT_FILENO).fill(b"unseen: % apart, % times %\n", &[apart, times, order])
+    pen.fill(b"unseen: % apart, % times %\n", &[apart, times, order])
 }
 
-fn seen(t1: bool, apart: usize) -> Pen {
+fn seen<W: Write + Drop>(pen: Pen<W>, t1: bool, apart: usize) -> Pen<W> {
     let order = judge::form_of(t1).order;
-    Pen::new(STDOUT_FILENO).fill(b"seen: % apart, no multiple of %\n", &[apart, order])
+    pen.fill(b"seen: % apart, no multiple of %\n", &[apart, order])
 }
 
-fn answer(t1: bool, a: usize, b: usize) {
+fn answer(rt: &impl Print, t1: bool, a: usize, b: usize) {
+    let pen = Pen::new(writer(rt));
     match judge::verdict_of(t1, a, b) {
         Verdict::Outside => say_outside(t1),
         Verdict::NoData { bit } => say_no_data(t1, bit),
         Verdict::OneBit { bit } => say_one_bit(bit),
-        Verdict::Hidden { apart } => shares(unseen(t1, apart), t1, a, b),
-        Verdict::Seen { apart } => shares(seen(t1, apart), t1, a, b),
+        Verdict::Hidden { apart } => shares(unseen(pen, t1, apart), t1, a, b),
+        Verdict::Seen { apart } => shares(seen(pen, t1, apart), t1, a, b),
     }
 }
 
@@ -100,28 +112,28 @@ fn say_usage() {
 }
 
 // the two bits are the arguments from `at` on, and nothing is behind them
-fn ask(t1: bool, at: usize)
+fn ask(rt: &(impl Env + Print), t1: bool, at: usize)
     requires { at ≤ 2 }
 {
-    if os::arg_count() != at + 2 {
+    if !program::is_given(rt, at + 1) || program::is_given(rt, at + 2) {
         say_usage();
         return;
     }
-    let Spelt::Number(a) = program::argument(at) else {
+    let Spelt::Number(a) = program::argument(rt, at) else {
         say_usage();
         return;
     };
-    let Spelt::Number(b) = program::argument(at + 1) else {
+    let Spelt::Number(b) = program::argument(rt, at + 1) else {
         say_usage();
         return;
     };
-    answer(t1, a as usize, b as usize);
+    answer(rt, t1, a as usize, b as usize);
 }
 
-fn main() {
-    if program::is_first(b"--t1") {
-        ask(true, 2);
+fn main(rt: HostRuntime) {
+    if program::is_first(&rt, b"--t1") {
+        ask(&rt, true, 2);
         return;
     }
-    ask(false, 1);
+    ask(&rt, false, 1);
 }

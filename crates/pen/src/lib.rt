@@ -1,28 +1,32 @@
 // Pieces of an SVG picture, written one after the other.
 #![tactic(auto)]
 
-// Where to write, and whether all went well. After a write that fails no other is tried, so errno stays as it left it.
+use std::io::{Result, Write};
+
+// Where to write, and whether all went well, or why not. After a write that fails no other is tried.
 #[derive(Drop)]
-pub struct Pen {
-    pub fd: i32,
-    pub written: bool,
+pub struct Pen<W> {
+    pub to: W,
+    pub written: Result<()>,
 }
 
-impl Pen {
-    pub fn new(fd: i32) -> Self {
+impl<W: Write + Drop> Pen<W> {
+    pub fn new(to: W) -> Self {
         Pen {
-            fd: fd,
-            written: true,
+            to: to,
+            written: Ok(()),
         }
     }
 
     pub fn text(self, words: &[u8]) -> Self {
-        if !self.written {
+        if self.written.is_err() {
             return self;
         }
+        let mut to = self.to;
+        let written = to.write_all(words);
         Pen {
-            fd: self.fd,
-            written: io::write_all(self.fd, words),
+            to: to,
+            written: written,
         }
     }
 

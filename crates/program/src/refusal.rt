@@ -1,10 +1,8 @@
-// The words for each number that says no.
-use crate::text::write_line;
+// The words for each number that says no, with no line end.
+use crate::text::line_at;
 
-// on a descriptor, with no line end
-pub fn print_refusal(fd: i32, number: u64) -> bool {
-    write_line(
-        fd,
+pub fn words(number: u64) -> &'static [u8] {
+    line_at(
         b"accepted\n\
         the line is under 2,048 octets; four multiframes are the least that can be read\n\
         the line is over 8,192 octets, the most that is read at once; watch takes it in chunks\n\
@@ -32,10 +30,9 @@ pub fn print_refusal(fd: i32, number: u64) -> bool {
 }
 
 // The same of a call of T1, which looks for 1 to 7 and 16: that one has the line behind 7.
-pub fn print_t1_refusal(fd: i32, number: u64) -> bool {
+pub fn t1_words(number: u64) -> &'static [u8] {
     let k = if number == 16 { 8 } else { number };
-    write_line(
-        fd,
+    line_at(
         b"accepted\n\
         the line is under 1,158 octets; two superframes are the least that can be read\n\
         the line is over 8,192 octets, the most that is read at once; cut it, and read the rest by itself\n\

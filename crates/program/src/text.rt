@@ -2,6 +2,8 @@
 ghost use Rattle.std.specs.Prelude.{◌≡◌, ◌+◌, ◌*◌, ◌-◌, ◌^◌, ◌≤◌, min, length};
 ghost use Rattle.program.specs.Text.{decimal};
 
+use crate::{Printed, print};
+
 // a space, a tab, or of a line end, which Windows makes of two octets
 fn is_blank(x: u8) -> bool {
     (x == b' ') | (x == b'\t') | (x == b'\r') | (x == b'\n')
@@ -24,7 +26,10 @@ pub fn until(s: &[u8], at: usize, octet: u8) -> usize
     requires { at ≤ length s.now }
     ensures { (at ≤ result) × (result ≤ length s.now) }
 {
-    bytes::scan::find(s, at, s.len(), octet)
+    match s[at..].iter().position(|x| *x == octet) {
+        Some(n) => at + n,
+        None => s.len(),
+    }
 }
 
 // the line of a table whose first word is the given one, counted from 0; the number of its lines, where there is none
@@ -42,24 +47,29 @@ pub fn line_of(table: &[u8], word: &[u8]) -> usize {
     k
 }
 
-// writes line k of a table, with no line end
-pub fn write_line(fd: i32, table: &[u8], k: u64) -> bool {
+// line k of a table, with no line end; nothing, where it has no such line
+pub fn line_at(table: &[u8], k: u64) -> &[u8] {
     let mut at = 0;
     for _line in 0..k {
         if table.len() <= at {
-            return true;
+            return &[];
         }
         at = until(table, at, b'\n') + 1;
     }
     if table.len() <= at {
-        return true;
+        return &[];
     }
     let e = until(table, at, b'\n');
-    io::write_all(fd, &table[at..e])
+    &table[at..e]
+}
+
+// writes line k of a table on standard output, with no line end
+pub fn write_line(rt: &impl Print, table: &[u8], k: u64) -> Printed {
+    print(rt, line_at(table, k))
 }
 
 // what a word spells
-#[derive(Drop)]
+#[derive(Clone, Copy)]
 pub enum Spelt {
     Number(u64),
     Nothing,

@@ -8,17 +8,17 @@ use Rattle.hits.proofs.share.share_of.Tie as tie
 share_requires : tie.Need-share-requires
 share_requires c κs =
     let b = c.before in
-    rw b.form_of.ensures ((form_fits _).wide, (form_fits _).narrow, omega (arith, (form_fits b.before.args.t1).few))
+    rw b.form_of-k.ensures ((form_fits _).wide, (form_fits _).narrow, omega (arith, (form_fits b.before.args.t1).few))
 
 returns : tie.Need-returns
-returns c = rw (← c.before.before.form_of.ensures) c.share.ensures
+returns c = rw (← c.before.before.form_of-k.ensures) c.share.ensures
 
 pub share_of_spec : {M : Type 1} → statement M
 share_of_spec =
     tie.close
     (tie.spec
     (search rules)
-    (λ c. rw c.before.form_of.ensures (omega arith))
-    (λ c. rw c.before.form_of.ensures (omega arith))
+    (λ c. rw c.before.form_of-k.ensures (omega arith))
+    (λ c. rw c.before.form_of-k.ensures (omega arith))
     share_requires
     returns)

@@ -11,20 +11,20 @@ use Rattle.hits.proofs.StepLaws.{step_under, step_over}
 use Rattle.hits.proofs.share.step.Statement.{statement}
 use Rattle.hits.proofs.share.step.Tie as tie
 
-fits : tie.Need-overflow-mul-if1
+fits : tie.Need-overflow_mul-r
 fits c = let h : 2 ^ c.args.w ≤ 2 ^ 6 = pow_mono c.requires.1 in omega arith
 
-fits_2 : tie.Need-overflow-mul-result-2
+fits_2 : tie.Need-overflow_mul-result-2
 fits_2 c = let h : 2 ^ c.before.args.w ≤ 2 ^ 6 = pow_mono c.before.requires.1 in omega arith
 
-returns : tie.Need-returns
+returns : tie.Need-returns-then-r-top
 returns c =
     let w = c.before.args.w in
     let h : 2 ^ w ≤ 2 ^ 6 = pow_mono c.before.requires.1 in
     let l : 2 * c.before.args.r < 2 ^ w = omega arith in
     (step_under w c.before.requires.0 c.before.args.r l, l)
 
-returns_2 : tie.Need-returns-2
+returns_2 : tie.Need-returns
 returns_2 c =
     let w = c.before.args.w in
     let r = c.before.args.r in

@@ -5,10 +5,10 @@ use lib.ListN.{length}
 use Rattle.program.proofs.text.line_of.Statement.{statement}
 use Rattle.program.proofs.text.line_of.Tie as tie
 
-abbrev invariant_loop : tie.invariant_loop
+abbrev invariant_loop : tie.invariant-loop-at
 invariant_loop table word k₀ at₀ k at = (at ≤ length table + 1) × (k ≤ at)
 
-abbrev decreases_loop : tie.decreases_loop
+abbrev decreases_loop : tie.decreases-loop-at
 decreases_loop table word k₀ at₀ k at = length table + 1 - at
 
 pub line_of_spec : {M : Type 1} → statement M

@@ -5,10 +5,10 @@ use lib.ListN.{length}
 use Rattle.program.proofs.text.numbers.Statement.{statement}
 use Rattle.program.proofs.text.numbers.Tie as tie
 
-abbrev invariant_loop : tie.invariant_loop
+abbrev invariant_loop : tie.invariant-loop-at
 invariant_loop s row₀ n₀ at₀ row n at = (n ≤ 8) × (at ≤ length s)
 
-abbrev decreases_loop : tie.decreases_loop
+abbrev decreases_loop : tie.decreases-loop-at
 decreases_loop s row₀ n₀ at₀ row n at = 8 - n
 
 pub numbers_spec : {M : Type 1} → statement M

@@ -5,10 +5,10 @@ use lib.ListN.{length}
 use Rattle.program.proofs.text.skip.Statement.{statement}
 use Rattle.program.proofs.text.skip.Tie as tie
 
-abbrev invariant_loop : tie.invariant_loop
+abbrev invariant_loop : tie.invariant-loop-i
 invariant_loop s at blanks i₀ i = (at ≤ i) × (i ≤ length s)
 
-abbrev decreases_loop : tie.decreases_loop
+abbrev decreases_loop : tie.decreases-loop-i
 decreases_loop s at blanks i₀ i = length s - i
 
 pub skip_spec : {M : Type 1} → statement M
