@@ -1,9 +1,8 @@
 -- Which place stands (G.706, 4.1.2 and 4.2; KIT §4), as it is worked out: the first of an image that does, with its
 -- least k; and where none does, the first with basic alignment.
-use Rattle.std.specs.Prelude.{ℕ, ◌+◌, ◌*◌, Bool, ◌&&◌, ◌||◌, List, eqb, leb, length, get_or}
+use Rattle.std.specs.Prelude.{if◌then◌else◌, ℕ, ◌+◌, ◌*◌, Bool, ◌&&◌, ◌||◌, List, eqb, leb, length, get_or}
 use Rattle.std.proofs.Math.Option.{Option, none, some}
 use Rattle.line.specs.Bit.{bit_at}
-use Rattle.base.specs.Choice.{if◌then◌else◌}
 use Rattle.base.specs.Tab.{all, first, least}
 use Rattle.line.specs.Signal.{signal}
 use Rattle.e1.specs.Frame.{word_at}

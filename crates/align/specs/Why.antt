@@ -1,8 +1,7 @@
 -- What `why` says of one place (KIT §4): that it stands, with its least k, or the first condition that fails there.
-use Rattle.std.specs.Prelude.{ℕ, ◌+◌, ◌*◌, not, List, [], ◌∷◌, eqb, ltb, length, get_or}
+use Rattle.std.specs.Prelude.{if◌then◌else◌, ℕ, ◌+◌, ◌*◌, not, List, [], ◌∷◌, eqb, ltb, length, get_or}
 use Rattle.std.proofs.Math.Option.{Option, none, some}
 use Rattle.base.specs.Answer.{accepted, Refusal, ◌when◌, first_number}
-use Rattle.base.specs.Choice.{if◌then◌else◌}
 use Rattle.base.specs.Tab.{least}
 use Rattle.line.specs.Bit.{bit_at}
 use Rattle.e1.specs.Frame.{word_at, first_wrong}

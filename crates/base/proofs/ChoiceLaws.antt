@@ -1,11 +1,11 @@
 -- The laws of choices and tests.
+use mathlib.Core.Bool.{cond}
 use mathlib.Core.Path.{◌≡◌, sym, ◌∙◌}
 use mathlib.Core.Bool.{Bool, true, false, true≢false}
 use mathlib.Core.Logic.{◌↔◌}
-use Rattle.base.specs.Choice.{if◌then◌else◌}
 
 -- what holds of both ways holds of the choice
-pub if_both {ℓ} : {A : Type ℓ} (P : A → Type 0) (t : Bool) {x y : A} → P x → P y → P (if t then x else y)
+pub if_both {ℓ} : {A : Type ℓ} (P : A → Type 0) (t : Bool) {x y : A} → P x → P y → P (cond t x y)
 if_both P true h k = h
 if_both P false h k = k
 

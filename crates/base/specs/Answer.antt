@@ -1,6 +1,5 @@
 -- Answers: a number, 0 where the call is accepted, else that of the first refusal that applies.
-use Rattle.std.specs.Prelude.{ℕ, zero, suc, Bool, false, ◌||◌, List, [], ◌∷◌, eqb}
-use Rattle.base.specs.Choice.{if◌then◌else◌}
+use Rattle.std.specs.Prelude.{if◌then◌else◌, ℕ, zero, suc, Bool, false, ◌||◌, List, [], ◌∷◌, eqb}
 
 -- a where the number is 0, else b
 abbrev pub accepted {ℓ} : {A : Type ℓ} → ℕ → A → A → A

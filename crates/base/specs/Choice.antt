@@ -1,10 +1,6 @@
 -- One of two.
-use Rattle.std.specs.Prelude.{Bool, true, false, cond}
+use Rattle.std.specs.Prelude.{Bool, true, false}
 use Rattle.std.proofs.Math.Option.{Option, none, some}
-
-infixr 1 if◌then◌else◌
-abbrev pub if◌then◌else◌ {ℓ} : {A : Type ℓ} → Bool → A → A → A
-if◌then◌else◌ t a b = cond t a b
 
 -- a where it is there, else b
 abbrev pub or_else {ℓ} : {A : Type ℓ} → Option A → Option A → Option A

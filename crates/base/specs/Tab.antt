@@ -1,7 +1,7 @@
 -- Lists, counts and searches given by an index: what the other definitions are said with.
-use Rattle.std.specs.Prelude.{ℕ, zero, suc, ◌+◌, Bool, true, ◌&&◌, List, [], ◌∷◌}
+use Rattle.std.specs.Prelude.{if◌then◌else◌, ℕ, zero, suc, ◌+◌, Bool, true, ◌&&◌, List, [], ◌∷◌}
 use Rattle.std.proofs.Math.Option.{Option, none}
-use Rattle.base.specs.Choice.{if◌then◌else◌, or_else, when_so}
+use Rattle.base.specs.Choice.{or_else, when_so}
 
 -- f i, f (i + 1), .. : n of them
 unfoldable pub tab_from {ℓ} : {A : Type ℓ} → ℕ → ℕ → (ℕ → A) → List A

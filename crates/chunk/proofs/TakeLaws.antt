@@ -1,4 +1,5 @@
 -- A chunk is taken in one look or in two.
+use Rattle.std.specs.Prelude.{if◌then◌else◌}
 use Prim.Native.Nat.{ℕ, ◌+◌, ◌-◌, ◌*◌, ◌/◌, ◌%◌, ◌≤◌, ◌<◌}
 use mathlib.Core.Path.{◌≡◌, refl, sym, ap, ap₂, ◌∙◌, subst}
 use mathlib.Core.Bool.{true, false}
@@ -9,7 +10,6 @@ use borrow.Author.Tests.{ltb-false}
 use lib.Dec.{ltb}
 use lib.ListN.{length, take, drop, length-append, length-drop, take-append-drop}
 use lib.Seq.{drop-append-le, drop-append-add, length-take-le}
-use Rattle.base.specs.Choice.{if◌then◌else◌}
 use Rattle.measure.specs.Reading.{payload_of, slot0_of}
 use Rattle.measure.proofs.Laws.{payload_length, slot0_length}
 use Rattle.align.specs.Place.{start_of}

@@ -1,6 +1,5 @@
 -- For private functions alone. What a look at an image tells in numbers.
-use Rattle.std.specs.Prelude.{ℕ, ◌+◌, ◌-◌, ◌*◌, ◌≤◌, ◌≡◌, List, eqb, length, drop}
-use Rattle.base.specs.Choice.{if◌then◌else◌}
+use Rattle.std.specs.Prelude.{if◌then◌else◌, ℕ, ◌+◌, ◌-◌, ◌*◌, ◌≤◌, ◌≡◌, List, eqb, length, drop}
 use Rattle.align.specs.declared.Found.{Found}
 use Rattle.align.specs.declared.Found.TheVariants.{At}
 use Rattle.measure.specs.declared.Tracked.{Tracked}

@@ -1,6 +1,5 @@
 -- What `take` answers, and what it leaves in the window and the two outputs.
-use Rattle.std.specs.Prelude.{ℕ, ◌*◌, ◌≡◌, Bool, ◌||◌, List, ◌++◌, ltb, length, drop}
-use Rattle.base.specs.Choice.{if◌then◌else◌}
+use Rattle.std.specs.Prelude.{if◌then◌else◌, ℕ, ◌*◌, ◌≡◌, Bool, ◌||◌, List, ◌++◌, ltb, length, drop}
 use Rattle.base.specs.Answer.{accepted}
 use Rattle.growth.specs.Growth.{Grown}
 use Rattle.growth.specs.declared.Line.{Line}

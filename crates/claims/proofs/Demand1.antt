@@ -1,4 +1,5 @@
 -- The proof of Demand1.
+use Rattle.std.specs.Prelude.{if◌then◌else◌}
 use Prim.Native.Nat.{ℕ, suc, ◌*◌, ◌≤◌}
 use mathlib.Core.Path.{◌≡◌, refl, sym, ap, ◌∙◌}
 use mathlib.Core.Bool.{true, not, ◌||◌}
@@ -9,7 +10,6 @@ use lib.Dec.{eqb}
 use lib.ListN.{length, take, drop}
 use lib.Seq.{drop_at}
 use Rattle.base.specs.Answer.{accepted}
-use Rattle.base.specs.Choice.{if◌then◌else◌}
 use Rattle.base.proofs.AnswerLaws.{accepted_so, first_listed}
 use Rattle.e1.specs.Payload.{multiframes}
 use Rattle.align.specs.Place.{place_of}

@@ -1,4 +1,5 @@
 -- The proof of Demand3.
+use Rattle.std.specs.Prelude.{if◌then◌else◌}
 use Prim.Native.Nat.{ℕ, zero, suc, ◌+◌, ◌-◌, ◌*◌, ◌/◌, ◌%◌, ◌^◌, ◌≤◌, ◌<◌}
 use mathlib.Core.Path.{◌≡◌, refl, sym, ap, ◌∙◌}
 use mathlib.Core.Logic.{◌≢◌, ◌⊎◌, inl, inr}
@@ -10,7 +11,6 @@ use native.Mathlib.Omega.{arith}
 use borrow.Author.Tests.{eqb-true, leb-true, ltb-true, eq-eqb, ne_eqb}
 use lib.Dec.{eqb, leb, ltb, lit≤}
 use lib.ListN.{length, get_or, get_or-eq_default}
-use Rattle.base.specs.Choice.{if◌then◌else◌}
 use Rattle.base.specs.Tab.{all, tab_from}
 use Rattle.base.proofs.TabLaws.{length_tab, get_d_tab, all_at}
 use Rattle.line.specs.Bit.{bit_at}

@@ -1,4 +1,5 @@
 -- Two hits in one block: what holds of E1 and T1 alike.
+use Rattle.std.specs.Prelude.{if◌then◌else◌}
 use Prim.Native.Nat.{ℕ, suc, ◌+◌, ◌-◌, ◌*◌, ◌%◌, ◌≤◌, ◌<◌}
 use mathlib.Core.Path.{◌≡◌, sym, ap, ap₂, ◌∙◌}
 use mathlib.Core.Bool.{Bool, true, cond, not}
@@ -10,7 +11,6 @@ use native.Mathlib.Omega.{arith}
 use borrow.Author.Tests.{eq-eqb, ne_eqb}
 use lib.Bits.{bit_xor}
 use lib.Dec.{eqb}
-use Rattle.base.specs.Choice.{if◌then◌else◌}
 use Rattle.base.specs.Tab.{count}
 use Rattle.base.proofs.TabLaws.{sum_ext, sum_grown}
 use Rattle.line.specs.Bit.{bit_at}

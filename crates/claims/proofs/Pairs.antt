@@ -1,4 +1,5 @@
 -- How many pairs of data bits a block has, and how many of them lie a multiple of o apart: those alike modulo o.
+use Rattle.std.specs.Prelude.{if◌then◌else◌}
 use Prim.Native.Nat.{ℕ, zero, suc, ◌+◌, ◌-◌, ◌*◌, ◌/◌, ◌%◌, ◌<◌}
 use mathlib.Core.Path.{◌≡◌, refl, sym, ap, ◌∙◌}
 use mathlib.Core.Bool.{Bool, true, false, ◌&&◌, and-true, and-false}
@@ -9,7 +10,6 @@ use native.Mathlib.Numerals.{add-one}
 use native.Mathlib.Omega.{arith}
 use borrow.Author.Tests.{eq-eqb, ne_eqb}
 use lib.Dec.{eqb}
-use Rattle.base.specs.Choice.{if◌then◌else◌}
 use Rattle.base.specs.Tab.{sum, count}
 use Rattle.base.proofs.TabLaws.{sum_ext, sum_none, sum_split, sum_runs, sum_grown}
 use Rattle.crc.specs.Share.{distance}

@@ -1,4 +1,5 @@
 -- The proof of Streams.
+use Rattle.std.specs.Prelude.{if◌then◌else◌}
 use Prim.Native.Nat.{ℕ, zero, suc, ◌+◌, ◌-◌, ◌*◌, ◌/◌, ◌%◌, ◌^◌, ◌≤◌, ◌<◌}
 use mathlib.Core.Path.{◌≡◌, refl, sym, ap, ap₂, subst, ◌∙◌}
 use mathlib.Core.Bool.{Bool, true, false, not, true≢false}
@@ -11,7 +12,6 @@ use lib.Dec.{eqb}
 use lib.ListN.{length, get_or, take, drop, length-append, length-take}
 use lib.Seq.{take_at}
 use Rattle.base.specs.Answer.{accepted, Refusal, first_number}
-use Rattle.base.specs.Choice.{if◌then◌else◌}
 use Rattle.base.proofs.AnswerLaws.{accepted_so, accepted_not, first_tells}
 use Rattle.base.specs.Tab.{tab_from}
 use Rattle.base.proofs.TabLaws.{length_tab, get_d_tab}

@@ -1,10 +1,10 @@
 -- The proof of TwoHits.
+use Rattle.std.specs.Prelude.{if◌then◌else◌}
 use Prim.Native.Nat.{ℕ, ◌+◌, ◌-◌, ◌*◌, ◌%◌, ◌<◌}
 use mathlib.Core.Path.{◌≡◌, refl, sym, ap, ap₂, ◌∙◌}
 use mathlib.Core.List.{List}
 use native.Mathlib.Omega.{arith}
 use lib.Dec.{eqb, lit<, lit≤}
-use Rattle.base.specs.Choice.{if◌then◌else◌}
 use Rattle.line.specs.Bit.{bit_at}
 use Rattle.line.proofs.SpeltLaws.{spelt_agree}
 use Rattle.crc.specs.Share.{distance}

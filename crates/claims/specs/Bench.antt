@@ -1,6 +1,5 @@
 -- The bench cases that go to proof, as one list under one claim (KIT §12 and §15).
-use Rattle.std.specs.Prelude.{ℕ, ◌+◌, ◌-◌, ◌*◌, ◌/◌, ◌%◌, ◌^◌, ◌≡◌, Bool, true, ◌&&◌, List, [], ◌∷◌, eqb, length, replicate}
-use Rattle.base.specs.Choice.{if◌then◌else◌}
+use Rattle.std.specs.Prelude.{if◌then◌else◌, ℕ, ◌+◌, ◌-◌, ◌*◌, ◌/◌, ◌%◌, ◌^◌, ◌≡◌, Bool, true, ◌&&◌, List, [], ◌∷◌, eqb, length, replicate}
 use Rattle.base.specs.Tab.{tab, sum}
 use Rattle.e1.specs.Block.{block_check}
 use Rattle.e1.specs.Frame.{even_slot0, odd_slot0}

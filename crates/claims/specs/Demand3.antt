@@ -1,6 +1,5 @@
 -- Demand 3: what a hit can do unseen (KIT §11). Over the check itself, never over what judges a block.
-use Rattle.std.specs.Prelude.{ℕ, ◌+◌, ◌-◌, ◌*◌, ◌%◌, ◌≤◌, ◌<◌, ◌≡◌, List, ◌≢◌, ◌⊎◌, eqb, length}
-use Rattle.base.specs.Choice.{if◌then◌else◌}
+use Rattle.std.specs.Prelude.{if◌then◌else◌, ℕ, ◌+◌, ◌-◌, ◌*◌, ◌%◌, ◌≤◌, ◌<◌, ◌≡◌, List, ◌≢◌, ◌⊎◌, eqb, length}
 use Rattle.base.specs.Tab.{tab}
 use Rattle.line.specs.Bit.{bit_at}
 use Rattle.e1.specs.Block.{block_check, carried}

@@ -1,7 +1,6 @@
 -- Demand 3 of T1 (KIT §15): what a hit can do unseen, with six bits for four. Over the check itself, never over what
 -- judges a superframe.
-use Rattle.std.specs.Prelude.{ℕ, ◌+◌, ◌-◌, ◌*◌, ◌%◌, ◌≤◌, ◌<◌, ◌≡◌, List, ◌≢◌, ◌⊎◌, eqb, length}
-use Rattle.base.specs.Choice.{if◌then◌else◌}
+use Rattle.std.specs.Prelude.{if◌then◌else◌, ℕ, ◌+◌, ◌-◌, ◌*◌, ◌%◌, ◌≤◌, ◌<◌, ◌≡◌, List, ◌≢◌, ◌⊎◌, eqb, length}
 use Rattle.base.specs.Tab.{tab}
 use Rattle.line.specs.Bit.{bit_at}
 use Rattle.t1.specs.Superframe.{carried, super_check}

@@ -1,7 +1,6 @@
 -- Two hits in one superframe of T1 (KIT §15): as in a block of E1, with 63 for 15.
-use Rattle.std.specs.Prelude.{ℕ, ◌+◌, ◌-◌, ◌*◌, ◌%◌, ◌≤◌, ◌<◌, ◌≡◌, true, List, ◌≢◌, ◌↔◌, eqb}
+use Rattle.std.specs.Prelude.{if◌then◌else◌, ℕ, ◌+◌, ◌-◌, ◌*◌, ◌%◌, ◌≤◌, ◌<◌, ◌≡◌, true, List, ◌≢◌, ◌↔◌, eqb}
 use Rattle.std.specs.Int.Bits.{bit_xor}
-use Rattle.base.specs.Choice.{if◌then◌else◌}
 use Rattle.crc.specs.Share.{share, distance}
 use Rattle.t1.specs.Superframe.{super_check}
 use Rattle.t1read.specs.Entry.{Read}

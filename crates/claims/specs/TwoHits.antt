@@ -1,8 +1,7 @@
 -- Two hits in one block (KIT §3): which of them the check sees, and how many there are that it does not. Over the check
 -- itself, as Demand 3 is.
-use Rattle.std.specs.Prelude.{ℕ, ◌+◌, ◌-◌, ◌*◌, ◌%◌, ◌≤◌, ◌<◌, ◌≡◌, Bool, true, not, ◌&&◌, List, ◌≢◌, ◌↔◌, eqb}
+use Rattle.std.specs.Prelude.{if◌then◌else◌, ℕ, ◌+◌, ◌-◌, ◌*◌, ◌%◌, ◌≤◌, ◌<◌, ◌≡◌, Bool, true, not, ◌&&◌, List, ◌≢◌, ◌↔◌, eqb}
 use Rattle.std.specs.Int.Bits.{bit_xor}
-use Rattle.base.specs.Choice.{if◌then◌else◌}
 use Rattle.base.specs.Tab.{sum, count}
 use Rattle.line.specs.Bit.{bit_at}
 use Rattle.crc.specs.Share.{share, distance}

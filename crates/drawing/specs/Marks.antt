@@ -1,6 +1,5 @@
 -- What is drawn beside a block.
-use Rattle.std.specs.Prelude.{ℕ, List, ltb}
-use Rattle.base.specs.Choice.{if◌then◌else◌}
+use Rattle.std.specs.Prelude.{if◌then◌else◌, ℕ, List, ltb}
 use Rattle.measure.specs.Reading.{agrees_in}
 use Rattle.drawing.specs.declared.multiframes.Mark.{Mark}
 use Rattle.drawing.specs.declared.multiframes.Mark.TheVariants.{Clean, Errored, NotCompared}

@@ -1,4 +1,5 @@
 -- A block's check out of the line's bits, its check bits among them: these weigh as much in the last octet.
+use Rattle.std.specs.Prelude.{if◌then◌else◌}
 use Prim.Native.Nat.{ℕ, zero, suc, ◌+◌, ◌*◌, ◌/◌, ◌%◌, ◌<◌}
 use mathlib.Core.Path.{◌≡◌, refl, sym, ap, ap₂, ◌∙◌, subst}
 use mathlib.Core.Bool.{Bool, true, false, cond}
@@ -9,7 +10,6 @@ use borrow.Author.Tests.{eq-eqb, ne_eqb}
 use lib.Bits.{bit_xor, xor_self, xor_zero_r}
 use lib.Dec.{eqb, lit<, lit≤}
 use lib.ListN.{get_or}
-use Rattle.base.specs.Choice.{if◌then◌else◌}
 use Rattle.base.specs.Tab.{tab, tab_from}
 use Rattle.base.proofs.TabLaws.{tab_agree, tab_of, tab_split}
 use Rattle.line.specs.Bit.{bit_at, octet_at, octet_bits}

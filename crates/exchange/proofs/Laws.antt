@@ -1,4 +1,5 @@
 -- What holds of each call, from any state.
+use Rattle.std.specs.Prelude.{if◌then◌else◌}
 use Prim.Native.Nat.{ℕ, zero, suc, ◌<◌, ◌≤◌}
 use mathlib.Core.Path.{◌≡◌, refl, sym, ap, ◌∙◌}
 use mathlib.Core.Bool.{Bool, true, false, not, ◌&&◌, ◌||◌, true≢false, and-eq-true_iff}
@@ -10,7 +11,6 @@ use lib.Dec.{lit<, eqb, leb, ltb}
 use lib.ListN.{length, get_or, take}
 use lib.Seq.{get_or-take}
 use borrow.Author.Tests.{ne_eqb, eqb-true, leb-true, le-leb, ltb-false, not-false}
-use Rattle.base.specs.Choice.{if◌then◌else◌}
 use Rattle.base.specs.Answer.{accepted, among}
 use Rattle.base.proofs.AnswerLaws.{accepted_not, first_listed, first_tells}
 use Rattle.exchange.specs.declared.State.{State}

@@ -1,4 +1,5 @@
 -- Mapping, octet by octet.
+use Rattle.std.specs.Prelude.{if◌then◌else◌}
 use Prim.Native.Nat.{ℕ, ◌+◌, ◌*◌, ◌/◌, ◌<◌, ◌≤◌}
 use mathlib.Core.Path.{◌≡◌, refl, sym, ap, ap₂, ◌∙◌}
 use mathlib.Core.Bool.{Bool, true, false}
@@ -10,7 +11,6 @@ use lib.Seq.{ext_get_or, get_or-append-add}
 use borrow.Author.Tests.{ne_eqb, le-leb, lt-leb, leb-true}
 use Rattle.base.specs.Tab.{tab}
 use Rattle.base.proofs.TabLaws.{length_tab, get_d_tab, tab_agree, tab_split}
-use Rattle.base.specs.Choice.{if◌then◌else◌}
 use Rattle.e1.specs.Payload.{index_of, frame_of, slot_of}
 use Rattle.e1.proofs.Laws.{frame_of_index, slot_of_index, index_of_lem}
 use Rattle.base.proofs.AnswerLaws.{accepted_so}

@@ -1,4 +1,5 @@
 -- A payload's frames, mapped part by part.
+use Rattle.std.specs.Prelude.{if◌then◌else◌}
 use Prim.Native.Nat.{ℕ, zero, suc, ◌+◌, ◌-◌, ◌*◌, ◌/◌, ◌%◌, ◌≤◌, ◌<◌}
 use mathlib.Core.Path.{◌≡◌, refl, sym, ap, ap₂, ◌∙◌}
 use mathlib.Core.Bool.{true, and-eq-true_iff}
@@ -12,7 +13,6 @@ use borrow.Author.Tests.{eqb-true, ne_eqb}
 use Rattle.base.specs.Tab.{tab_from, tab}
 use Rattle.base.proofs.TabLaws.{get_d_tab, tab_agree}
 use Rattle.base.proofs.PartLaws.{copy_more}
-use Rattle.base.specs.Choice.{if◌then◌else◌}
 use Rattle.e1.specs.Payload.{index_of, frame_of, slot_of, sized}
 use Rattle.exchange.proofs.Laws.{refused_mapping}
 use Rattle.exchange.specs.Mapping.{entry_used, entry_at, slot_octet, mapped_payload, map_refusal, Mapped}

@@ -1,4 +1,5 @@
 -- What holds of every run of calls.
+use Rattle.std.specs.Prelude.{if◌then◌else◌}
 use Prim.Native.Nat.{ℕ, zero, suc, ◌≤◌}
 use mathlib.Core.Path.{◌≡◌, refl, sym, ap, ap₂, ◌∙◌}
 use mathlib.Core.Bool.{Bool, true, false, not, ◌&&◌, ◌||◌, true≢false, and-eq-true_iff}
@@ -6,7 +7,6 @@ use mathlib.Core.List.{List, [], ◌∷◌}
 use lib.Dec.{eqb, leb, lit≤}
 use lib.ListN.{get_or, set}
 use borrow.Author.Tests.{eq-eqb, eqb-true, leb-true, not-false}
-use Rattle.base.specs.Choice.{if◌then◌else◌}
 use Rattle.base.specs.Tab.{tab_from}
 use Rattle.base.proofs.ChoiceLaws.{if_both}
 use Rattle.exchange.specs.declared.State.{State}
@@ -24,7 +24,7 @@ use Rattle.exchange.proofs.Laws.{waits_only_by_commit, entry_named}
 abbrev keyed_by : State → Bool → Bool → State
 keyed_by s k l = (answered_by s (if not (k || l) then 13 else 0) (if l then key_on s else key_off s) 0).state
 
-key_flag : (s : State) (p : ℕ) → (keyed s p).state.flag ≡ (if eqb p 1 then true else if eqb p 0 then false else s.flag)
+key_flag : (s : State) (p : ℕ) → (keyed s p).state.flag ≡ (if eqb p 1 then true else (if eqb p 0 then false else s.flag))
 unfolding key_refusal
 key_flag s p = go (eqb p 0) (eqb p 1)
   where

@@ -1,8 +1,7 @@
 -- What a payload is mapped to (KIT §7). A map has the entry of output slot j at its index j; what stands at index 0 is
 -- never used.
-use Rattle.std.specs.Prelude.{ℕ, ◌≡◌, not, List, [], ◌∷◌, ◌++◌, length, get_or, drop, leb, ltb, eqb}
+use Rattle.std.specs.Prelude.{if◌then◌else◌, ℕ, ◌≡◌, not, List, [], ◌∷◌, ◌++◌, length, get_or, drop, leb, ltb, eqb}
 use Rattle.base.specs.Tab.{tab}
-use Rattle.base.specs.Choice.{if◌then◌else◌}
 use Rattle.base.specs.Answer.{accepted, Refusal, ◌when◌, first_number}
 use Rattle.e1.specs.Payload.{index_of, frame_of, slot_of, sized}
 

@@ -1,6 +1,5 @@
 -- Runs: any calls in any order, from any state (KIT §7).
-use Rattle.std.specs.Prelude.{ℕ, Bool, true, false, ◌&&◌, ◌||◌, List, [], ◌∷◌, eqb}
-use Rattle.base.specs.Choice.{if◌then◌else◌}
+use Rattle.std.specs.Prelude.{if◌then◌else◌, ℕ, Bool, true, false, ◌&&◌, ◌||◌, List, [], ◌∷◌, eqb}
 use Rattle.exchange.specs.declared.State.{State}
 use Rattle.exchange.specs.Mapping.{map_refusal, mapped}
 use Rattle.exchange.specs.Machine.{kind_of, host_refusal, hosted, keyed, crossed}

@@ -1,4 +1,5 @@
 -- Reading, as a line grows: what is read of multiframes that are whole is kept, and what is read of later ones adds to it.
+use Rattle.std.specs.Prelude.{if◌then◌else◌}
 use Prim.Native.Nat.{ℕ, zero, suc, ◌+◌, ◌-◌, ◌*◌, ◌/◌, ◌%◌, ◌≤◌, ◌<◌}
 use mathlib.Core.Path.{◌≡◌, refl, ap, ap₂, ◌∙◌}
 use mathlib.Core.Bool.{Bool, true, false, not}
@@ -8,7 +9,7 @@ use native.Mathlib.Omega.{arith}
 use borrow.Author.Tests.{leb-true, leb-false, le-leb, lt-leb}
 use lib.Dec.{eqb, leb}
 use lib.ListN.{length, drop, length-append, length-drop}
-use Rattle.base.specs.Choice.{if◌then◌else◌, or_else, when_so}
+use Rattle.base.specs.Choice.{or_else, when_so}
 use Rattle.base.specs.Tab.{tab, tab_from, sum, count, first}
 use Rattle.base.proofs.TabLaws.{tab_agree, tab_split, sum_ext, sum_le, sum_split, count_le}
 use Rattle.line.specs.Bit.{bit_at, octet_at}

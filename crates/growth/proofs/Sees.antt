@@ -1,5 +1,6 @@
 -- What a part of a line shows of it: bits, fields, words, places that stand. A longer line keeps these, and octets before
 -- it shift them by 8 places each.
+use Rattle.std.specs.Prelude.{if◌then◌else◌}
 use Prim.Native.Nat.{ℕ, ◌+◌, ◌*◌, ◌/◌, ◌%◌, ◌≤◌, ◌<◌}
 use mathlib.Core.Path.{◌≡◌, sym, ap, ◌∙◌}
 use mathlib.Core.Bool.{not}
@@ -9,7 +10,6 @@ use native.Mathlib.Omega.{arith}
 use lib.Dec.{eqb}
 use lib.ListN.{length, get_or, drop, get_or-append}
 use lib.Seq.{get_or-drop}
-use Rattle.base.specs.Choice.{if◌then◌else◌}
 use Rattle.base.proofs.TabLaws.{sum_ext}
 use Rattle.line.specs.Bit.{bit_at, field}
 use Rattle.line.proofs.SpeltLaws.{spelt_agree}

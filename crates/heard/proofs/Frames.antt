@@ -1,4 +1,5 @@
 -- One frame more: the five cases of a step, and that counts grow by one at most.
+use Rattle.std.specs.Prelude.{if◌then◌else◌}
 use Prim.Native.Nat.{ℕ, ◌+◌, ◌/◌, ◌≤◌}
 use mathlib.Core.Path.{◌≡◌, sym, ap}
 use mathlib.Core.Bool.{Bool, true, false, ◌&&◌, not}
@@ -7,7 +8,6 @@ use native.Mathlib.Omega.{arith}
 use borrow.Author.Tests.{ne_eqb}
 use lib.Dec.{eqb, lit≤}
 use lib.ListN.{get_or}
-use Rattle.base.specs.Choice.{if◌then◌else◌}
 use Rattle.signals.specs.Signalling.{aligns, Walk, searching, step}
 use Rattle.heard.specs.declared.Hearing.{Hearing}
 use Rattle.heard.specs.Hearing.{Few, nothing, walk_of, tallied, after_frame}

@@ -1,4 +1,5 @@
 -- A row heard frame by frame: what is known behind its first n frames, and behind all of them.
+use Rattle.std.specs.Prelude.{if◌then◌else◌}
 use Prim.Native.Nat.{ℕ, zero, suc, ◌+◌, ◌-◌, ◌*◌, ◌/◌, ◌%◌, ◌≤◌, ◌<◌}
 use mathlib.Core.Path.{◌≡◌, refl, sym, ap, ap₂, subst, ◌∙◌}
 use mathlib.Core.Bool.{Bool, true, false, ◌&&◌, not}
@@ -10,7 +11,6 @@ use borrow.Author.Tests.{eqb-true, eqb-false, leb-true, leb-false, lt-ltb}
 use lib.Dec.{eqb, leb, ltb}
 use lib.ListN.{length, get_or, drop, replicate, length-append, length-drop, get_or-append}
 use lib.Seq.{drop-cons, drop-length, get_or-append-add, get_or-drop, get_or_at}
-use Rattle.base.specs.Choice.{if◌then◌else◌}
 use Rattle.base.specs.Tab.{tab, tab_from, sum, first}
 use Rattle.base.proofs.TabLaws.{tab_split, tab_agree, count_yes, count_no}
 use Rattle.signals.specs.Signalling.{aligns, Walk, searching, step, walk, ends, loses, starts_in, read_in, first_in, losses_in}

@@ -1,6 +1,5 @@
 -- Signalling heard frame by frame (KIT §5): slot 16 of one frame after the other, in a row of any length.
-use Rattle.std.specs.Prelude.{ℕ, ◌+◌, ◌-◌, ◌≤◌, ◌≡◌, Bool, true, false, ◌&&◌, not, List, [], ◌∷◌, ◌++◌, eqb, length, get_or, drop, replicate}
-use Rattle.base.specs.Choice.{if◌then◌else◌}
+use Rattle.std.specs.Prelude.{if◌then◌else◌, ℕ, ◌+◌, ◌-◌, ◌≤◌, ◌≡◌, Bool, true, false, ◌&&◌, not, List, [], ◌∷◌, ◌++◌, eqb, length, get_or, drop, replicate}
 use Rattle.base.specs.Tab.{tab}
 use Rattle.signals.specs.Signalling.{Walk, step, walk, ends, starts_in, read_in, first_in, losses_in, held_in, abcd_at, xy_in}
 use Rattle.heard.specs.declared.Hearing.{Hearing}

@@ -1,5 +1,6 @@
 -- The numbers of both lines are in range, two bits add the same exactly where the order divides their distance, and bits
 -- that are not said to be outside lie in the block.
+use Rattle.std.specs.Prelude.{if◌then◌else◌}
 use Prim.Native.Nat.{ℕ, ◌%◌, ◌≤◌, ◌<◌}
 use mathlib.Core.Path.{◌≡◌, refl, sym, ap, ◌∙◌}
 use mathlib.Core.Logic.{◌≢◌, ◌↔◌}
@@ -7,7 +8,6 @@ use mathlib.Core.Bool.{Bool, true, false, true≢false, ◌||◌}
 use mathlib.Mathlib.Data.Bool.Basic.{or-eq-false-eq-eq-false-and-eq-false}
 use borrow.Author.Tests.{leb-false, eqb-true, eqb-false, eq-eqb, ne_eqb}
 use lib.Dec.{eqb, leb, lit<, lit≤}
-use Rattle.base.specs.Choice.{if◌then◌else◌}
 use Rattle.crc.specs.Share.{distance}
 use Rattle.crc.proofs.Order.{order_4, order_6}
 use Rattle.crc.proofs.ShareLaws.{same_share}

@@ -1,4 +1,5 @@
 -- Runs of calls over the octets of a state go as on the machine.
+use Rattle.std.specs.Prelude.{if◌then◌else◌}
 use Prim.Native.Nat.{ℕ, zero, suc}
 use mathlib.Core.Path.{◌≡◌, refl, sym, ap, ◌∙◌}
 use mathlib.Core.Bool.{Bool, true, false}
@@ -8,7 +9,6 @@ use native.Mathlib.Decide.{ℕ_discrete}
 use lib.Dec.{eqb}
 use borrow.Author.Tests.{eqb-true}
 use lib.ListN.{length, length-set}
-use Rattle.base.specs.Choice.{if◌then◌else◌}
 use Rattle.base.specs.Answer.{accepted}
 use Rattle.base.specs.Tab.{tab_from}
 use Rattle.base.proofs.AnswerLaws.{accepted_not}

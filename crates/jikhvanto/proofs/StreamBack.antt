@@ -1,4 +1,5 @@
 -- Unpacking a packed stream gives it back, and what a chunk makes of a stream can be packed.
+use Rattle.std.specs.Prelude.{if◌then◌else◌}
 use Prim.Native.Nat.{ℕ, zero, suc, ◌+◌, ◌-◌, ◌*◌, ◌/◌, ◌%◌, ◌^◌, ◌≤◌, ◌<◌}
 use mathlib.Core.Path.{◌≡◌, refl, sym, ap, ap₂, ◌∙◌}
 use mathlib.Core.Bool.{Bool, true, false, ◌||◌}
@@ -10,7 +11,6 @@ use borrow.Author.Tests.{ltb-false}
 use lib.Dec.{eqb, ltb, lit≤}
 use lib.ListN.{length, get_or, take, replicate, length-append, length-take, get_or-append, replicate-append-replicate}
 use mir.Val.{bool_byte}
-use Rattle.base.specs.Choice.{if◌then◌else◌}
 use Rattle.base.specs.Tab.{tab_from}
 use Rattle.base.proofs.TabLaws.{get_d_tab}
 use Rattle.line.specs.Bit.{field}

@@ -1,7 +1,6 @@
 -- A state as 99 octets, and an answer as 16 places (KIT §10).
-use Rattle.std.specs.Prelude.{ℕ, List, [], ◌∷◌, ◌++◌, eqb, get_or, take, drop, replicate}
+use Rattle.std.specs.Prelude.{if◌then◌else◌, ℕ, List, [], ◌∷◌, ◌++◌, eqb, get_or, take, drop, replicate}
 use mir.Val.{bool_byte}
-use Rattle.base.specs.Choice.{if◌then◌else◌}
 use Rattle.base.specs.Answer.{accepted}
 use Rattle.align.specs.Why.{why_values}
 use Rattle.align.specs.declared.Why.{Why}

@@ -1,8 +1,7 @@
 -- A stream as 2,144 octets (KIT §10): twelve numbers of 64 bits, each spelt by eight octets, the highest first, and
 -- then the window.
-use Rattle.std.specs.Prelude.{ℕ, ◌*◌, ◌/◌, ◌%◌, List, [], ◌∷◌, ◌++◌, eqb, get_or, drop}
+use Rattle.std.specs.Prelude.{if◌then◌else◌, ℕ, ◌*◌, ◌/◌, ◌%◌, List, [], ◌∷◌, ◌++◌, eqb, get_or, drop}
 use mir.Val.{bool_byte}
-use Rattle.base.specs.Choice.{if◌then◌else◌}
 use Rattle.base.specs.Answer.{accepted}
 use Rattle.base.specs.Tab.{tab}
 use Rattle.line.specs.Bit.{field}

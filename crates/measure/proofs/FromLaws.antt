@@ -1,4 +1,5 @@
 -- The laws of the loss among the frames of multiframes h to m - 1 alone.
+use Rattle.std.specs.Prelude.{if◌then◌else◌}
 use Prim.Native.Nat.{ℕ, zero, suc, ◌+◌, ◌-◌, ◌*◌, ◌≤◌, ◌<◌}
 use mathlib.Core.Path.{◌≡◌, refl, sym, ap, ap₂, ◌∙◌}
 use mathlib.Core.Bool.{Bool, true, false, ◌&&◌, not, and-eq-true_iff}
@@ -9,7 +10,7 @@ use native.Mathlib.Nat.{add-zero, zero-add, add-suc}
 use native.Mathlib.Omega.{arith}
 use borrow.Author.Tests.{leb-true, leb-false, le-leb, lt-leb}
 use lib.Dec.{eqb, leb}
-use Rattle.base.specs.Choice.{if◌then◌else◌, or_else, when_so}
+use Rattle.base.specs.Choice.{or_else, when_so}
 use Rattle.base.specs.Tab.{first}
 use Rattle.base.proofs.TabLaws.{some_first, first_less, none_first, first_some, when_so_some}
 use Rattle.line.specs.Bit.{bit_at}

@@ -1,4 +1,5 @@
 -- The laws of the loss: what is computed is what KIT §5 says in words.
+use Rattle.std.specs.Prelude.{if◌then◌else◌}
 use Prim.Native.Nat.{ℕ, ◌+◌, ◌*◌, ◌/◌, ◌≤◌, ◌<◌}
 use mathlib.Core.Path.{◌≡◌, refl, ap, ◌∙◌, subst}
 use mathlib.Core.Bool.{Bool, true, false, not}
@@ -9,7 +10,6 @@ use mathlib.Mathlib.Data.Bool.Basic.{eq-false_of_not-eq-true}
 use native.Mathlib.Omega.{arith}
 use borrow.Author.Tests.{leb-true, leb-false, ltb-true, ltb-false, eqb-true, eq-eqb, not-true}
 use lib.Dec.{eqb, leb, ltb}
-use Rattle.base.specs.Choice.{if◌then◌else◌}
 use Rattle.base.proofs.ChoiceLaws.{denies}
 use Rattle.line.specs.Bit.{bit_at, field}
 use Rattle.e1.specs.Frame.{frame_at}

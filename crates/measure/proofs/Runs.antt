@@ -1,4 +1,5 @@
 -- Runs: how many in a row pass a test, and what three of them mean, once for words and bits 2.
+use Rattle.std.specs.Prelude.{if◌then◌else◌}
 use Prim.Native.Nat.{ℕ, zero, suc, ◌+◌, ◌-◌, ◌*◌, ◌/◌, ◌%◌, ◌≤◌, ◌<◌, min}
 use mathlib.Core.Path.{◌≡◌, refl, sym, ap, ◌∙◌, subst}
 use mathlib.Core.Bool.{Bool, true, false, ◌&&◌, and-eq-true_iff, true≢false}
@@ -8,7 +9,7 @@ use native.Mathlib.Numerals.{add-one}
 use native.Mathlib.Omega.{arith}
 use borrow.Author.Tests.{leb-true, leb-false, le-leb, lt-leb, ltb-true, ltb-false}
 use lib.Dec.{leb, ltb}
-use Rattle.base.specs.Choice.{if◌then◌else◌, when_so}
+use Rattle.base.specs.Choice.{when_so}
 use Rattle.base.specs.Tab.{first}
 use Rattle.base.proofs.ChoiceLaws.{denies}
 use Rattle.base.proofs.TabLaws.{some_first, first_none, none_first, first_some}

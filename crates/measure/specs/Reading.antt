@@ -1,9 +1,9 @@
 -- What is read from a multiframe start q on (KIT §5), in an image of any length. Frames are numbered from q; m and g
 -- are numbers of multiframes.
-use Rattle.std.specs.Prelude.{ℕ, ◌+◌, ◌-◌, ◌*◌, ◌/◌, ◌%◌, Bool, ◌&&◌, not, List, eqb, leb, length}
+use Rattle.std.specs.Prelude.{if◌then◌else◌, ℕ, ◌+◌, ◌-◌, ◌*◌, ◌/◌, ◌%◌, Bool, ◌&&◌, not, List, eqb, leb, length}
 use Rattle.std.proofs.Math.Option.{Option, none, some}
 use Rattle.line.specs.Bit.{bit_at, octet_at}
-use Rattle.base.specs.Choice.{if◌then◌else◌, when_so}
+use Rattle.base.specs.Choice.{when_so}
 use Rattle.base.specs.Tab.{tab, sum, count, first}
 use Rattle.e1.specs.Frame.{frame_at, slot_at, wrong_bits}
 use Rattle.e1.specs.Block.{agrees}

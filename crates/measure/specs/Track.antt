@@ -1,6 +1,5 @@
 -- For private functions alone. What is known of runs when multiframes have gone by.
-use Rattle.std.specs.Prelude.{ℕ, zero, suc, ◌+◌, ◌*◌, min, ◌≡◌, Bool, List}
-use Rattle.base.specs.Choice.{if◌then◌else◌}
+use Rattle.std.specs.Prelude.{if◌then◌else◌, ℕ, zero, suc, ◌+◌, ◌*◌, min, ◌≡◌, Bool, List}
 use Rattle.measure.specs.Reading.{wrong, wrong_bit2}
 use Rattle.measure.specs.declared.Tracking.{Tracking}
 

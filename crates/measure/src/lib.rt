@@ -1,9 +1,8 @@
 // What is read from a multiframe start on: the alignment words and bits 2 tracked, blocks judged, E bits counted, and the
 // octets of multiframes written.
 #![tactic(auto)]
-ghost use Rattle.std.specs.Prelude.{◌≡◌, ◌++◌, ◌+◌, ◌-◌, ◌*◌, ◌^◌, ◌<◌, ◌≤◌, eqb, length, drop};
+ghost use Rattle.std.specs.Prelude.{if◌then◌else◌, ◌≡◌, ◌++◌, ◌+◌, ◌-◌, ◌*◌, ◌^◌, ◌<◌, ◌≤◌, eqb, length, drop};
 ghost use Rattle.line.specs.Bit.{Room};
-ghost use Rattle.base.specs.Choice.{if◌then◌else◌};
 ghost use Rattle.measure.specs.Reading.{loss_from, lost_at, cause_of, used_of, slots, payload_of, slot0_of};
 ghost use Rattle.crc.specs.Fold.{remainders};
 ghost use Rattle.measure.specs.Track.{Runs};

@@ -1,6 +1,5 @@
 -- What a word spells.
-use Rattle.std.specs.Prelude.{ℕ, ◌+◌, ◌*◌, ◌-◌, ◌^◌, min, Bool, ◌||◌, List, [], ◌∷◌, ltb}
-use Rattle.base.specs.Choice.{if◌then◌else◌}
+use Rattle.std.specs.Prelude.{if◌then◌else◌, ℕ, ◌+◌, ◌*◌, ◌-◌, ◌^◌, min, Bool, ◌||◌, List, [], ◌∷◌, ltb}
 use Rattle.program.specs.declared.text.Spelt.{Spelt}
 use Rattle.program.specs.declared.text.Spelt.TheVariants.{Number, Nothing}
 

@@ -1,4 +1,5 @@
 -- The laws of the entry: its numbers, what an accepted call and a refused one give, and that two results are equal.
+use Rattle.std.specs.Prelude.{if◌then◌else◌}
 use Prim.Native.Nat.{ℕ, zero, suc, ◌+◌, ◌*◌, ◌≤◌, ◌<◌}
 use mathlib.Core.Path.{◌≡◌, refl, sym, ap, subst, ◌∙◌}
 use mathlib.Core.Bool.{Bool, true, false, ◌||◌, true≢false}
@@ -11,7 +12,6 @@ use lib.Dec.{eqb, ltb}
 use lib.ListN.{length}
 use Rattle.base.proofs.AnswerLaws.{accepted_so, accepted_both, accepted_single, joined_first, joined_then, Tells, first_tells}
 use Rattle.base.specs.Answer.{accepted, Refusal, ◌when◌, first_number}
-use Rattle.base.specs.Choice.{if◌then◌else◌}
 use Rattle.align.specs.Place.{found, found_in, number_of, place_of, start_of, Standing, first_standing, first_basic}
 use Rattle.align.specs.Stands.{StandsFirst}
 use Rattle.align.specs.declared.Found.{Found}

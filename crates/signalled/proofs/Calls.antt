@@ -1,5 +1,6 @@
 -- Calls of `write_signalled`: what an accepted one was given, that it is `write`'s with slot 16 replaced, and that any two
 -- results of one call are equal.
+use Rattle.std.specs.Prelude.{if◌then◌else◌}
 use Prim.Native.Nat.{ℕ, zero, suc, ◌*◌, ◌%◌, ◌≤◌}
 use mathlib.Core.Path.{◌≡◌, refl, sym, ap, ap₂, ◌∙◌}
 use mathlib.Core.Bool.{Bool, ◌&&◌, not, and-eq-true_iff}
@@ -8,7 +9,6 @@ use borrow.Author.Tests.{not-false, leb-true}
 use lib.Dec.{eqb, leb}
 use lib.ListN.{length, drop}
 use Rattle.base.specs.Answer.{accepted, Refusal, first_number}
-use Rattle.base.specs.Choice.{if◌then◌else◌}
 use Rattle.base.proofs.AnswerLaws.{accepted_so, accepted_not, accepted_single, joined_first, joined_then, first_tells, tells_first}
 use Rattle.e1.specs.Payload.{multiframes, sized}
 use Rattle.write.specs.Writing.{carries, written}

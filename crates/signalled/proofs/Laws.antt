@@ -1,4 +1,5 @@
 -- The laws of the signalling that is given, of slot 16, and of a payload with slot 16 replaced.
+use Rattle.std.specs.Prelude.{if◌then◌else◌}
 use Prim.Native.Nat.{ℕ, ◌+◌, ◌*◌, ◌/◌, ◌%◌, ◌≤◌, ◌<◌}
 use mathlib.Core.Path.{◌≡◌, ap, ◌∙◌}
 use mathlib.Core.Bool.{Bool, true, false, ◌&&◌, and-eq-true_iff}
@@ -8,7 +9,6 @@ use native.Mathlib.Omega.{arith}
 use borrow.Author.Tests.{eq-eqb, ne_eqb, eqb-true, leb-true, le-leb}
 use lib.Dec.{eqb, leb, lit<}
 use lib.ListN.{length, get_or, get_or-eq_default}
-use Rattle.base.specs.Choice.{if◌then◌else◌}
 use Rattle.base.specs.Tab.{all}
 use Rattle.base.proofs.TabLaws.{length_tab, get_d_tab, all_at, at_all}
 use Rattle.e1.specs.Payload.{index_of, frame_of, slot_of, multiframes}

@@ -1,4 +1,5 @@
 -- Each frame's and each multiframe's part of a payload with slot 16 replaced, and each multiframe's of the signalling.
+use Rattle.std.specs.Prelude.{if◌then◌else◌}
 use Prim.Native.Nat.{ℕ, zero, suc, ◌+◌, ◌-◌, ◌*◌, ◌/◌, ◌%◌, ◌≤◌, ◌<◌}
 use mathlib.Core.Path.{◌≡◌, refl, sym, ap, ap₂, ◌∙◌}
 use mathlib.Core.Bool.{Bool, true, false}
@@ -9,7 +10,6 @@ use borrow.Author.Tests.{eqb-true, eqb-false}
 use lib.Dec.{eqb}
 use lib.ListN.{length, get_or, drop, set, length-set, get_or-eq_default}
 use lib.Seq.{ext_get_or, get_or-take, get_or-drop, get_or-set_same, get_or-set_other}
-use Rattle.base.specs.Choice.{if◌then◌else◌}
 use Rattle.base.proofs.PartLaws.{part_length}
 use Rattle.e1.specs.Payload.{index_of, frame_of, slot_of}
 use Rattle.write.proofs.Parts.{part, payload_part}

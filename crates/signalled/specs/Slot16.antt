@@ -1,7 +1,6 @@
 -- Slot 16 as it is written (KIT §6): xy has an octet for each signalling multiframe, 0000 X0 Y X1 X2, and v thirty,
 -- ABCD of channels 1 to 30. A signalling multiframe begins with each multiframe.
-use Rattle.std.specs.Prelude.{ℕ, ◌+◌, ◌-◌, ◌*◌, ◌/◌, ◌%◌, Bool, ◌&&◌, List, eqb, leb, length, get_or}
-use Rattle.base.specs.Choice.{if◌then◌else◌}
+use Rattle.std.specs.Prelude.{if◌then◌else◌, ℕ, ◌+◌, ◌-◌, ◌*◌, ◌/◌, ◌%◌, Bool, ◌&&◌, List, eqb, leb, length, get_or}
 use Rattle.base.specs.Tab.{tab, all}
 use Rattle.e1.specs.Payload.{frame_of, slot_of}
 

@@ -1,4 +1,5 @@
 -- The laws of the entry: its numbers, what an accepted call and a refused one give, and that two results are equal.
+use Rattle.std.specs.Prelude.{if◌then◌else◌}
 use Prim.Native.Nat.{ℕ, zero, suc, ◌*◌, ◌/◌, ◌%◌}
 use mathlib.Core.Path.{◌≡◌, refl, sym, ap, ◌∙◌}
 use mathlib.Core.Bool.{Bool}
@@ -7,7 +8,6 @@ use native.Mathlib.Omega.{arith}
 use lib.Dec.{ltb}
 use lib.ListN.{length, drop}
 use Rattle.base.specs.Answer.{accepted, Refusal, ◌when◌, first_number}
-use Rattle.base.specs.Choice.{if◌then◌else◌}
 use Rattle.base.proofs.AnswerLaws.{accepted_so, accepted_not, accepted_single, joined_first, joined_then}
 use Rattle.base.proofs.TabLaws.{length_tab}
 use Rattle.read.specs.Entry.{unplaced, located}

@@ -1,5 +1,6 @@
 -- What is found in the octets of slot 16, and what is told by it: where a signalling multiframe stands, its channels, X
 -- and Y.
+use Rattle.std.specs.Prelude.{if◌then◌else◌}
 use Prim.Native.Nat.{ℕ, ◌+◌, ◌-◌, ◌/◌, ◌%◌, ◌≤◌, ◌<◌}
 use mathlib.Core.Path.{◌≡◌, refl, sym, ap, ap₂, ◌∙◌}
 use mathlib.Core.Bool.{Bool, true, false, ◌&&◌, and-eq-true_iff}
@@ -10,7 +11,6 @@ use borrow.Author.Tests.{ltb-true, leb-true, leb-false}
 use lib.Dec.{leb, ltb}
 use lib.ListN.{length, get_or, take, drop, replicate, get_or-append}
 use lib.Seq.{get_or-take, get_or-drop}
-use Rattle.base.specs.Choice.{if◌then◌else◌}
 use Rattle.base.proofs.TabLaws.{tab_agree}
 use Rattle.signals.specs.Signalling.{starts_in, read_in, held_in, abcd_at, xy_in}
 use Rattle.signals.specs.Follow.{starts_of, followed, channels}

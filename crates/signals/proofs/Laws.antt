@@ -1,4 +1,5 @@
 -- The laws of the walk from frame to frame, and of the first alignment.
+use Rattle.std.specs.Prelude.{if◌then◌else◌}
 use Prim.Native.Nat.{ℕ, zero, suc, ◌+◌, ◌-◌, ◌/◌, ◌%◌, ◌≤◌, ◌<◌}
 use mathlib.Core.Path.{◌≡◌, refl, sym, ap, ◌∙◌}
 use mathlib.Core.Bool.{Bool, true, false, ◌&&◌, not, true≢false}
@@ -10,7 +11,7 @@ use native.Mathlib.Omega.{arith}
 use borrow.Author.Tests.{ne_eqb, eqb-false, le-leb, lt-leb}
 use lib.Dec.{eqb, lit≤}
 use lib.ListN.{get_or}
-use Rattle.base.specs.Choice.{if◌then◌else◌, value_or}
+use Rattle.base.specs.Choice.{value_or}
 use Rattle.base.specs.Tab.{least}
 use Rattle.base.proofs.TabLaws.{Least, least_some, some_least, least_more, least_none}
 use Rattle.signals.specs.Signalling.{signal_at, aligns, Walk, searching, begun, step, walk, first_in, abcd_at}

@@ -1,4 +1,5 @@
 -- The loss of signalling, and the search after it.
+use Rattle.std.specs.Prelude.{if◌then◌else◌}
 use Prim.Native.Nat.{ℕ, zero, suc, ◌+◌, ◌-◌, ◌≤◌, ◌<◌}
 use mathlib.Core.Path.{◌≡◌, refl, sym, ap, subst, ◌∙◌}
 use mathlib.Core.Bool.{Bool, true, false, ◌&&◌, not, and-eq-true_iff}
@@ -9,7 +10,6 @@ use native.Mathlib.Omega.{arith}
 use borrow.Author.Tests.{eqb-true, eqb-false, not-true}
 use lib.Dec.{eqb}
 use lib.ListN.{get_or}
-use Rattle.base.specs.Choice.{if◌then◌else◌}
 use Rattle.signals.specs.Signalling.{signal_at, aligns, Walk, searching, begun, step, walk, loses, starts_in, read_in}
 use Rattle.signals.specs.Follow.{begins}
 use Rattle.signals.specs.Lost.{Lost}

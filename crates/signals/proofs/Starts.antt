@@ -1,4 +1,5 @@
 -- The signalling multiframes that are read: where they begin, how many there are, and the losses between them.
+use Rattle.std.specs.Prelude.{if◌then◌else◌}
 use Prim.Native.Nat.{ℕ, zero, suc, ◌+◌, ◌-◌, ◌*◌, ◌%◌, ◌≤◌, ◌<◌}
 use mathlib.Core.Path.{◌≡◌, refl, sym, ap, ap₂, subst, ◌∙◌}
 use mathlib.Core.Bool.{Bool, true, false, ◌&&◌}
@@ -10,7 +11,6 @@ use borrow.Author.Tests.{eq-eqb, ne_eqb, eqb-true, eqb-false}
 use lib.Dec.{eqb, lit≤}
 use lib.ListN.{length, get_or, length-append, get_or-append}
 use lib.Seq.{get_or_at}
-use Rattle.base.specs.Choice.{if◌then◌else◌}
 use Rattle.base.proofs.TabLaws.{count_yes, count_no}
 use Rattle.signals.specs.Signalling.{Walk, begun, step, walk, ends, loses, starts_in, read_in, losses_in}
 use Rattle.signals.proofs.Laws.{walk_more, inside, step_passed, passed_most, passed_few}

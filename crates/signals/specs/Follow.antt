@@ -1,6 +1,5 @@
 -- For private functions alone. What a pass through the octets of slot 16 finds.
-use Rattle.std.specs.Prelude.{ℕ, ◌+◌, ◌-◌, Bool, ◌&&◌, not, List, ◌++◌, length, replicate}
-use Rattle.base.specs.Choice.{if◌then◌else◌}
+use Rattle.std.specs.Prelude.{if◌then◌else◌, ℕ, ◌+◌, ◌-◌, Bool, ◌&&◌, not, List, ◌++◌, length, replicate}
 use Rattle.base.specs.Tab.{tab}
 use Rattle.signals.specs.Signalling.{signal_at, aligns, starts_in, read_in, first_in, losses_in, held_in, abcd_at}
 use Rattle.signals.specs.declared.Followed.{Followed}

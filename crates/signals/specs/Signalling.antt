@@ -1,8 +1,8 @@
 -- Signalling in slot 16 (KIT §2, §5). t is slot 16 of frames in a row, one octet a frame; frames are numbered from the
 -- first. A signalling multiframe is 16 frames: frame 0 of it has 0000, X0, Y, X1, X2, and frame i, 1 to 15, has A to D
 -- of channel i and then of channel i + 15.
-use Rattle.std.specs.Prelude.{ℕ, zero, suc, ◌+◌, ◌-◌, ◌*◌, ◌/◌, ◌%◌, Bool, false, ◌&&◌, not, List, [], ◌∷◌, ◌++◌, eqb, leb, ltb, length, get_or}
-use Rattle.base.specs.Choice.{if◌then◌else◌, value_or}
+use Rattle.std.specs.Prelude.{if◌then◌else◌, ℕ, zero, suc, ◌+◌, ◌-◌, ◌*◌, ◌/◌, ◌%◌, Bool, false, ◌&&◌, not, List, [], ◌∷◌, ◌++◌, eqb, leb, ltb, length, get_or}
+use Rattle.base.specs.Choice.{value_or}
 use Rattle.base.specs.Tab.{tab, count, least}
 
 -- frame f has the signal, 0000 in the high four bits

@@ -1,4 +1,5 @@
 -- The laws of the entries: what a stream that is not over has, and how a chunk is refused or taken.
+use Rattle.std.specs.Prelude.{if◌then◌else◌}
 use Prim.Native.Nat.{ℕ, suc, ◌+◌, ◌*◌, ◌≤◌}
 use mathlib.Core.Path.{◌≡◌, refl, sym, ap, ◌∙◌}
 use mathlib.Core.Bool.{Bool, true, false, not, ◌||◌}
@@ -8,7 +9,6 @@ use native.Mathlib.Omega.{arith}
 use borrow.Author.Tests.{ltb-false}
 use lib.Dec.{eqb, ltb}
 use lib.ListN.{length, take}
-use Rattle.base.specs.Choice.{if◌then◌else◌}
 use Rattle.base.specs.Answer.{accepted}
 use Rattle.base.proofs.AnswerLaws.{accepted_so}
 use Rattle.align.specs.Place.{number_of, place_of, start_of}

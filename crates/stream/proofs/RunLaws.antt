@@ -1,5 +1,6 @@
 -- The laws of calls and of runs: two results of a call are equal, and what any calls leave of a stream is what the joined
 -- line leaves that comes at once.
+use Rattle.std.specs.Prelude.{if◌then◌else◌}
 use Prim.Native.Nat.{ℕ, zero, suc, ◌+◌, ◌-◌, ◌*◌, ◌/◌, ◌%◌, ◌≤◌, ◌<◌}
 use mathlib.Core.Path.{◌≡◌, refl, sym, ap, ap₂, subst, ◌∙◌}
 use mathlib.Core.Bool.{Bool, true, false, true≢false}
@@ -13,7 +14,6 @@ use lib.Dec.{eqb, lit≤}
 use lib.ListN.{length, take, drop, length-append, length-drop}
 use lib.Seq.{take-append_seam, drop-drop}
 use Rattle.base.specs.Answer.{accepted, first_number}
-use Rattle.base.specs.Choice.{if◌then◌else◌}
 use Rattle.base.specs.Tab.{first}
 use Rattle.base.proofs.AnswerLaws.{accepted_so, accepted_not, accepted_single, first_tells}
 use Rattle.align.specs.Place.{first_standing, first_basic, found_in, number_of, place_of, start_of}

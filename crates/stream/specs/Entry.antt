@@ -1,7 +1,6 @@
 -- What `start`, `feed` and `end` answer, and what they leave in the window and the two outputs (KIT §5): one answer for
 -- every stream.
-use Rattle.std.specs.Prelude.{ℕ, ◌+◌, ◌-◌, ◌*◌, ◌/◌, ◌%◌, Bool, true, false, not, ◌||◌, ◌≡◌, List, [], ◌∷◌, eqb, ltb, length, take}
-use Rattle.base.specs.Choice.{if◌then◌else◌}
+use Rattle.std.specs.Prelude.{if◌then◌else◌, ℕ, ◌+◌, ◌-◌, ◌*◌, ◌/◌, ◌%◌, Bool, true, false, not, ◌||◌, ◌≡◌, List, [], ◌∷◌, eqb, ltb, length, take}
 use Rattle.base.specs.Answer.{accepted, Refusal, ◌when◌, first_number}
 use Rattle.align.specs.Place.{number_of, place_of, start_of}
 use Rattle.align.specs.declared.Found.{Found}

@@ -1,4 +1,5 @@
 -- Framing bits made 1, frame by frame: x^193 is x^4, and the 192 bits behind the last framing bit are x^3.
+use Rattle.std.specs.Prelude.{if◌then◌else◌}
 use Prim.Native.Nat.{ℕ, zero, suc, ◌+◌, ◌-◌, ◌*◌, ◌%◌, ◌<◌}
 use mathlib.Core.Path.{◌≡◌, refl, sym, ap, ap₂, ◌∙◌}
 use mathlib.Core.Bool.{Bool, true, false, cond}
@@ -9,7 +10,6 @@ use borrow.Author.Tests.{eq-eqb, ne_eqb}
 use lib.Bits.{bit_xor, xor_zero_r, xor_lt}
 use lib.Dec.{eqb, lit<, lit≤}
 use lib.ListN.{get_or, length-replicate}
-use Rattle.base.specs.Choice.{if◌then◌else◌}
 use Rattle.base.specs.Tab.{tab, tab_from}
 use Rattle.base.proofs.TabLaws.{tab_split, tab_agree, tab_of}
 use Rattle.line.specs.Bit.{bit_at}

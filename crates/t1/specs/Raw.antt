@@ -1,8 +1,7 @@
 -- For private functions alone, and for `raw`, `framing`, `carried_by` and `check_by`, which those of the crates above use. The
 -- check of a superframe, from the remainder of its bits as they are and from its framing bits as a number.
-use Rattle.std.specs.Prelude.{ℕ, zero, suc, ◌+◌, ◌-◌, ◌*◌, ◌/◌, ◌%◌, List, eqb}
+use Rattle.std.specs.Prelude.{if◌then◌else◌, ℕ, zero, suc, ◌+◌, ◌-◌, ◌*◌, ◌/◌, ◌%◌, List, eqb}
 use Rattle.std.specs.Int.Bits.{bit_xor}
-use Rattle.base.specs.Choice.{if◌then◌else◌}
 use Rattle.base.specs.Tab.{tab}
 use Rattle.line.specs.Bit.{bit_at}
 use Rattle.line.specs.Spelt.{spelt}

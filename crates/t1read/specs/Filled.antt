@@ -1,6 +1,5 @@
 -- For private functions alone. A payload of which some frames are written, those eight apart at a time.
-use Rattle.std.specs.Prelude.{ℕ, ◌/◌, ◌%◌, Bool, ◌&&◌, List, eqb, ltb, length, get_or}
-use Rattle.base.specs.Choice.{if◌then◌else◌}
+use Rattle.std.specs.Prelude.{if◌then◌else◌, ℕ, ◌/◌, ◌%◌, Bool, ◌&&◌, List, eqb, ltb, length, get_or}
 use Rattle.base.specs.Tab.{tab}
 use Rattle.t1read.specs.Reading.{octet_of}
 

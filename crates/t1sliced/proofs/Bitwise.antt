@@ -1,4 +1,5 @@
 -- One bit of an exclusive or, of an or and of what `!` gives.
+use Rattle.std.specs.Prelude.{if◌then◌else◌}
 use Prim.Native.Nat.{ℕ, zero, suc, ◌+◌, ◌-◌, ◌*◌, ◌/◌, ◌%◌, ◌^◌, ◌≤◌, ◌<◌}
 use mathlib.Core.Path.{◌≡◌, sym, ap, ◌∙◌}
 use native.Mathlib.Nat.{pow-suc, mul_assoc, div-one, div-eq_of_lt}
@@ -8,7 +9,6 @@ use borrow.Author.Tests.{ne_eqb}
 use lib.Bits.{bit_xor, bit_or, xor_shr, xor_mod, or_shr, or_mod, or_add_and, and_le_l, and_le_r}
 use lib.Dec.{eqb, lit<, lit≤}
 use lib.Pow.{pow_mono, pow-add, shl-shr}
-use Rattle.base.specs.Choice.{if◌then◌else◌}
 use Rattle.line.specs.Window.{bit_of}
 use Rattle.line.proofs.WindowLaws.{shifted_bit, low_bit}
 

@@ -1,5 +1,6 @@
 -- What each place adds, in six words: what comes in at the coefficient of 1, what is gone at those of x and x^4, and
 -- the first place's own remainder at its highest bits.
+use Rattle.std.specs.Prelude.{if◌then◌else◌}
 use Prim.Native.Nat.{ℕ, zero, suc, ◌+◌, ◌-◌, ◌*◌, ◌/◌, ◌<◌}
 use mathlib.Core.Path.{◌≡◌, refl, ap, ap₂, ◌∙◌}
 use mathlib.Core.List.{List, [], ◌∷◌}
@@ -8,7 +9,6 @@ use native.Mathlib.Omega.{arith}
 use borrow.Author.Tests.{lt-ltb, le-ltb, ne_eqb}
 use lib.Bits.{bit_xor, xor_zero_r}
 use lib.ListN.{get_or}
-use Rattle.base.specs.Choice.{if◌then◌else◌}
 use Rattle.line.specs.Bit.{bit_at, field}
 use Rattle.line.specs.Window.{bit_of}
 use Rattle.line.proofs.BitLaws.{bit_lt, field_lt}

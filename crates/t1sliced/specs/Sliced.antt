@@ -1,9 +1,8 @@
 -- For private functions alone, and for `agreeing`, which the search's private functions use. What it works out of a part
 -- of an image, 1,158 octets, for its first 56 places at once: a set of these is a number whose bit 63 - o stands for the
 -- place o.
-use Rattle.std.specs.Prelude.{ℕ, zero, suc, ◌+◌, ◌-◌, ◌*◌, ◌<◌, ◌≡◌, List, ◌↔◌, eqb, ltb, get_or}
+use Rattle.std.specs.Prelude.{if◌then◌else◌, ℕ, zero, suc, ◌+◌, ◌-◌, ◌*◌, ◌<◌, ◌≡◌, List, ◌↔◌, eqb, ltb, get_or}
 use Rattle.std.specs.Int.Bits.{bit_xor}
-use Rattle.base.specs.Choice.{if◌then◌else◌}
 use Rattle.line.specs.Bit.{bit_at}
 use Rattle.line.specs.Window.{bit_of, One}
 use Rattle.crc.specs.Remainder.{zeros, after}

@@ -1,5 +1,6 @@
 -- Calls of the two entries: what an accepted one was given, that two in a row make one line, and that any two results of
 -- one call are equal. What is answered of a payload with signalling is what is answered of the payload with bits replaced.
+use Rattle.std.specs.Prelude.{if◌then◌else◌}
 use Prim.Native.Nat.{ℕ, suc, ◌+◌, ◌*◌, ◌%◌, ◌≤◌}
 use mathlib.Core.Path.{◌≡◌, refl, sym, ap, ap₂, ◌∙◌}
 use mathlib.Core.Bool.{Bool, true, false, not, ◌&&◌, and-eq-true_iff}
@@ -13,7 +14,6 @@ use lib.ListN.{length, get_or, take, drop, get_or-eq_default}
 use lib.Seq.{take_at, drop_at}
 use Rattle.base.specs.Tab.{all}
 use Rattle.base.specs.Answer.{Refusal, first_number}
-use Rattle.base.specs.Choice.{if◌then◌else◌}
 use Rattle.base.proofs.TabLaws.{all_at, at_all}
 use Rattle.base.proofs.AnswerLaws.{accepted_so, accepted_not, accepted_single, joined_first, joined_then, first_tells, tells_first}
 use Rattle.t1.specs.Payload.{superframes, sized}

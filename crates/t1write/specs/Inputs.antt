@@ -1,6 +1,5 @@
 -- For private functions alone. What is written of an accepted call.
-use Rattle.std.specs.Prelude.{ℕ, ◌*◌, ◌/◌, ◌%◌, ◌<◌, List, ◌≡◌, eqb, length, get_or}
-use Rattle.base.specs.Choice.{if◌then◌else◌}
+use Rattle.std.specs.Prelude.{if◌then◌else◌, ℕ, ◌*◌, ◌/◌, ◌%◌, ◌<◌, List, ◌≡◌, eqb, length, get_or}
 use Rattle.line.specs.Spelt.{digit}
 use Rattle.t1.specs.Payload.{data_bit}
 

@@ -1,7 +1,6 @@
 -- The superframes that are written (KIT §15), bit by bit: p is the payload, l the data link, c the check that the first
 -- superframe carries. Frames and line places are counted from the first superframe on.
-use Rattle.std.specs.Prelude.{ℕ, zero, suc, ◌+◌, ◌*◌, ◌/◌, ◌%◌, List, eqb, length, get_or}
-use Rattle.base.specs.Choice.{if◌then◌else◌}
+use Rattle.std.specs.Prelude.{if◌then◌else◌, ℕ, zero, suc, ◌+◌, ◌*◌, ◌/◌, ◌%◌, List, eqb, length, get_or}
 use Rattle.base.specs.Tab.{tab}
 use Rattle.line.specs.Spelt.{digit, packed}
 use Rattle.line.specs.Signal.{signal}

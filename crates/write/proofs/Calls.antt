@@ -1,5 +1,6 @@
 -- Calls of `write`: what an accepted one was given, that two in a row make one line, and that any two results of one
 -- call are equal.
+use Rattle.std.specs.Prelude.{if◌then◌else◌}
 use Prim.Native.Nat.{ℕ, zero, suc, ◌+◌, ◌*◌, ◌%◌, ◌≤◌}
 use mathlib.Core.Path.{◌≡◌, refl, sym, ap, ap₂, ◌∙◌}
 use mathlib.Core.Bool.{Bool, ◌&&◌, and-eq-true_iff}
@@ -14,7 +15,6 @@ use Rattle.base.specs.Tab.{all}
 use Rattle.base.proofs.TabLaws.{all_at}
 use Rattle.base.proofs.AnswerLaws.{accepted_single, joined_first, joined_then, first_tells}
 use Rattle.base.specs.Answer.{accepted, Refusal, ◌when◌, first_number}
-use Rattle.base.specs.Choice.{if◌then◌else◌}
 use Rattle.e1.specs.Payload.{multiframes, sized}
 use Rattle.write.specs.Writing.{carries, written}
 use Rattle.write.specs.Entry.{overhead_limit, overhead_fits, faults, no_room, refusals, refusal, accept, refuse, writing, Wrote}

@@ -1,6 +1,7 @@
 -- What stands where in the line that is written: each payload octet, each overhead bit, the word, the signal and the
 -- checks. Every block but the last agrees with the check that is carried after it, and the check of the last is the one
 -- that is answered.
+use Rattle.std.specs.Prelude.{if◌then◌else◌}
 use Prim.Native.Nat.{ℕ, zero, suc, ◌+◌, ◌-◌, ◌*◌, ◌/◌, ◌%◌, ◌^◌, ◌≤◌, ◌<◌}
 use mathlib.Core.Path.{◌≡◌, refl, sym, ap, ap₂, ◌∙◌}
 use mathlib.Core.Bool.{Bool, true, false, cond}
@@ -19,7 +20,6 @@ use Rattle.line.proofs.BitLaws.{bit_in, field_in}
 use Rattle.line.specs.Spelt.{digit}
 use Rattle.line.proofs.SpeltLaws.{spelt_agree, spelt_digits}
 use Rattle.crc.specs.Remainder.{check}
-use Rattle.base.specs.Choice.{if◌then◌else◌}
 use Rattle.line.specs.Signal.{signal}
 use Rattle.e1.specs.Frame.{frame_at, slot_at, word_at, even_slot0, odd_slot0}
 use Rattle.e1.specs.Block.{block_check, carried, agrees}

@@ -1,7 +1,6 @@
 -- The multiframes that are written (KIT §6), block after block. Frames and blocks are numbered from the first; p is the
 -- payload, o the overhead, one octet for each odd frame, and c the check of the block before the first.
-use Rattle.std.specs.Prelude.{ℕ, zero, suc, ◌+◌, ◌-◌, ◌*◌, ◌/◌, ◌%◌, ◌^◌, List, [], ◌++◌, eqb, ltb, get_or}
-use Rattle.base.specs.Choice.{if◌then◌else◌}
+use Rattle.std.specs.Prelude.{if◌then◌else◌, ℕ, zero, suc, ◌+◌, ◌-◌, ◌*◌, ◌/◌, ◌%◌, ◌^◌, List, [], ◌++◌, eqb, ltb, get_or}
 use Rattle.base.specs.Tab.{tab}
 use Rattle.line.specs.Signal.{signal}
 use Rattle.e1.specs.Frame.{even_slot0, odd_slot0}

@@ -1,10 +1,10 @@
 -- `tallied` meets its contract, value by value.
+use Rattle.std.specs.Prelude.{if◌then◌else◌}
 use Prim.Native.Nat.{◌+◌}
 use mathlib.Core.Path.{ap, ◌∙◌}
 use borrow.Author.Rules.{rules}
 use lib.Dec.{eqb}
 use lib.ListN.{get_or}
-use Rattle.base.specs.Choice.{if◌then◌else◌}
 use Rattle.heard.specs.Hearing.{tallied}
 use Rattle.heard.proofs.tallied.Statement.{statement}
 use Rattle.heard.proofs.tallied.Tie as tie

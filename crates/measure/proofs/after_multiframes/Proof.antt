@@ -1,10 +1,10 @@
 -- `after_multiframes` meets its contract: at the head of the loop the runs are told by the frames from 2 * (8 * h - 2) on.
+use Rattle.std.specs.Prelude.{if◌then◌else◌}
 use Prim.Native.Nat.{ℕ, ◌+◌, ◌-◌, ◌*◌, ◌≤◌, ◌<◌}
 use mathlib.Core.Path.{◌≡◌, refl, sym, ap, ◌∙◌}
 use mathlib.Core.Bool.{Bool, not}
 use native.Mathlib.Omega.{arith}
 use lib.Dec.{eqb}
-use Rattle.base.specs.Choice.{if◌then◌else◌}
 use Rattle.measure.specs.Reading.{wrong, wrong_bit2}
 use Rattle.measure.specs.Track.{run_of}
 use Rattle.measure.specs.declared.Tracking.{Tracking}

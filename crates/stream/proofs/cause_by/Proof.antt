@@ -1,10 +1,10 @@
 -- `cause_by` meets its contract.
+use Rattle.std.specs.Prelude.{if◌then◌else◌}
 use Prim.Native.Nat.{ℕ, ◌+◌, ◌%◌}
 use mathlib.Core.Path.{sym, ap}
 use mathlib.Core.Bool.{Bool}
 use borrow.Author.Rules.{rules}
 use borrow.Author.Tests.{ne_eqb, eq-eqb}
-use Rattle.base.specs.Choice.{if◌then◌else◌}
 use Rattle.stream.proofs.cause_by.Statement.{statement}
 use Rattle.stream.proofs.cause_by.Tie as tie
 
