@@ -2,6 +2,7 @@
 // or from standard input, has a line for each: a label, a colon, and steps with semicolons between them. Each call that
 // a step makes prints a line.
 #![tactic(auto)]
+
 mod calls;
 mod chunks;
 mod hits;

@@ -1,5 +1,6 @@
 // A chunk of a line, joined to the window before it: the image is looked at, and what leaves is written.
 #![tactic(auto)]
+
 ghost use Rattle.std.specs.Prelude.{◌≡◌, true, ◌++◌, ◌+◌, ◌-◌, ◌*◌, ◌/◌, ◌%◌, ◌^◌, ◌<◌, ◌≤◌, length, take, drop, replicate};
 ghost use Rattle.line.specs.Bit.{Room};
 ghost use Rattle.align.specs.Place.{found_in, start_of};

@@ -1,6 +1,7 @@
 // The bench console: the key, host records and boundaries, as lines typed at a terminal, piped, or played from the file
 // that the argument names; each is answered as it comes.
 #![tactic(auto)]
+
 mod parse;
 mod tell;
 

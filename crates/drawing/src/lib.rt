@@ -1,5 +1,6 @@
 // Pictures as SVG: a line, and the live map. Each answers whether all of it was written.
 #![tactic(auto)]
+
 mod asked;
 mod crossing;
 mod frames;

@@ -2,6 +2,7 @@
 // standard input, and the line goes to standard output. With `--signalled`, before the file, n octets XY and 30n octets
 // ABCD come behind them.
 #![tactic(auto)]
+
 ghost use Rattle.std.specs.Prelude.{◌≤◌, length};
 
 // what was written of a line, or why nothing was

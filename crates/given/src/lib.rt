@@ -1,5 +1,6 @@
 // What the cases are made of: a payload, an overhead, signalling, bits for T1, and a line with its damage.
 #![tactic(auto)]
+
 pub mod hits;
 
 ghost use Rattle.std.specs.Prelude.{◌<◌, ◌≤◌};

@@ -1,5 +1,6 @@
 // What is known of a line that comes in chunks.
 #![tactic(auto)]
+
 ghost use Rattle.std.specs.Prelude.{◌≡◌};
 ghost use Rattle.growth.specs.Growth.{unread, nothing};
 

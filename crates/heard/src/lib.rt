@@ -1,5 +1,6 @@
 // Signalling in slot 16, heard frame by frame.
 #![tactic(auto)]
+
 ghost use Rattle.std.specs.Prelude.{if◌then◌else◌, ◌≡◌, [], ◌∷◌, ◌++◌, ◌-◌, ◌^◌, ◌≤◌, drop};
 ghost use Rattle.heard.specs.Hearing.{Few, nothing, tallied, after_frame, is_held, xy_of, is_read, began_at};
 ghost use Rattle.heard.specs.Hearing.{channel_of};

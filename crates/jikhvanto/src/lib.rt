@@ -1,5 +1,6 @@
 // The C interface: each entry of the kit, over a state in lent octets and an answer in lent places.
 #![tactic(auto)]
+
 pub mod t1;
 
 ghost use Rattle.std.specs.Prelude.{◌≡◌, [], ◌∷◌, ◌++◌, ◌+◌, ◌≤◌, ◌<◌, length, drop, eqb};
@@ -307,12 +308,7 @@ fn give_pair(number: u64, value: u64, answer: &mut [u64; 16])
 }
 
 // an image is read
-pub fn jk_read(
-    image: &[u8],
-    payload: &mut [u8],
-    slot0: &mut [u8],
-    answer: &mut [u64; 16],
-) -> u64
+pub fn jk_read(image: &[u8], payload: &mut [u8], slot0: &mut [u8], answer: &mut [u64; 16]) -> u64
     ensures { JkRead image.now payload.old slot0.old
         result payload.new slot0.new answer.new }
 {

@@ -18,12 +18,7 @@ fn give_t1_reading(r: Reading, answer: &mut [u64; 16])
 }
 
 // an image is read
-pub fn jk_t1_read(
-    image: &[u8],
-    payload: &mut [u8],
-    link: &mut [u8],
-    answer: &mut [u64; 16],
-) -> u64
+pub fn jk_t1_read(image: &[u8], payload: &mut [u8], link: &mut [u8], answer: &mut [u64; 16]) -> u64
     ensures { JkT1Read image.now payload.old link.old
         result payload.new link.new answer.new }
 {

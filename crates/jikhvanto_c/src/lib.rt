@@ -1,5 +1,6 @@
 // The C interface: each entry of `jikhvanto` under its name in C, with its contract.
 #![tactic(auto)]
+
 pub mod t1;
 
 ghost use Rattle.jikhvanto.specs.Calls.{JkBoundary, JkEnd, JkFeed, JkHost, JkKey, JkMap, JkRead, JkSignals, JkStart, JkStreamStart, JkWhy, JkWrite, JkWriteSignalled};

@@ -1,4 +1,5 @@
 #![tactic(auto)]
+
 ghost use Rattle.std.specs.Prelude.{◌≡◌, ◌+◌, ◌-◌, ◌*◌, ◌^◌, ◌<◌, ◌≤◌, length};
 ghost use Rattle.line.specs.Bit.{bit_at, field, octet_at};
 ghost use Rattle.line.specs.Spelt.{spelt_octet};

@@ -1,6 +1,7 @@
 // What is read from a multiframe start on: the alignment words and bits 2 tracked, blocks judged, E bits counted, and the
 // octets of multiframes written.
 #![tactic(auto)]
+
 ghost use Rattle.std.specs.Prelude.{if◌then◌else◌, ◌≡◌, ◌++◌, ◌+◌, ◌-◌, ◌*◌, ◌^◌, ◌<◌, ◌≤◌, eqb, length, drop};
 ghost use Rattle.line.specs.Bit.{Room};
 ghost use Rattle.measure.specs.Reading.{loss_from, lost_at, cause_of, used_of, slots, payload_of, slot0_of};

@@ -1,6 +1,7 @@
 // Reads the signalling of a line, from the file that the argument names or from standard input, and prints which channels
 // change. With `--table`, before the file, it prints all of them.
 #![tactic(auto)]
+
 ghost use Rattle.std.specs.Prelude.{◌<◌};
 
 use libc::STDOUT_FILENO;

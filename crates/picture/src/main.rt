@@ -1,6 +1,7 @@
 // Reads a line, from the file that the argument names or from standard input, and writes its picture, an SVG. Behind
 // `--why`, before the file, comes a place to mark.
 #![tactic(auto)]
+
 use align::Why;
 use drawing::Asked;
 use libc::STDOUT_FILENO;

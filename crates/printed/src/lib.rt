@@ -1,5 +1,6 @@
 // What several programs print: the report of a line, and what its telephones say.
 #![tactic(auto)]
+
 use program::{print, print_line, print_number};
 use read::Reading;
 use signals::Signalling;

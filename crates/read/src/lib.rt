@@ -1,5 +1,6 @@
 // Reading an image from the first place that stands.
 #![tactic(auto)]
+
 ghost use Rattle.std.specs.Prelude.{◌≡◌};
 ghost use Rattle.std.proofs.Math.Option.{some};
 ghost use Rattle.align.specs.Place.{first_standing};

@@ -1,5 +1,6 @@
 // Signalling in slot 16, read.
 #![tactic(auto)]
+
 ghost use Rattle.std.specs.Prelude.{◌≡◌, ◌++◌, ◌*◌, ◌≤◌, ◌<◌, length, take, drop};
 ghost use Rattle.line.specs.Bit.{Room};
 ghost use Rattle.signals.specs.Signalling.{signal_at, aligns, abcd_in, xy_in};

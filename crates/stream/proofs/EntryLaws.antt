@@ -8,7 +8,7 @@ use mathlib.Mathlib.Data.Bool.Basic.{or-eq-false-eq-eq-false-and-eq-false}
 use native.Mathlib.Omega.{arith}
 use borrow.Author.Tests.{ltb-false}
 use lib.Dec.{eqb, ltb}
-use lib.ListN.{length, take}
+use lib.ListN.{length}
 use Rattle.base.specs.Answer.{accepted}
 use Rattle.base.proofs.AnswerLaws.{accepted_so}
 use Rattle.align.specs.Place.{number_of, place_of, start_of}

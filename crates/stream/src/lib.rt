@@ -1,6 +1,7 @@
 // A line that comes in chunks: a stream is started, fed and ended. What it is, beside its numbers, is the window, which
 // is lent.
 #![tactic(auto)]
+
 ghost use Rattle.std.specs.Prelude.{◌≡◌};
 ghost use Rattle.align.specs.Place.{number_of, place_of};
 ghost use Rattle.read.specs.Entry as reads;

@@ -1,5 +1,6 @@
 // Superframes of a T1 line: their framing bits, the check that they carry, and their own.
 #![tactic(auto)]
+
 pub mod raw;
 
 ghost use Rattle.std.specs.Prelude.{◌≡◌, List, ℕ, ◌+◌, ◌*◌, ◌^◌, ◌<◌, ◌≤◌, length};

@@ -2,6 +2,7 @@
 // names or from standard input, and the line goes to standard output. With `--signalled`, before the file, 96n octets of
 // signalling come behind them.
 #![tactic(auto)]
+
 ghost use Rattle.std.specs.Prelude.{◌≤◌, length};
 
 // what was written of a line, or why nothing was

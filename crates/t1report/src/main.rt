@@ -1,5 +1,6 @@
 // Reads a T1 line, from the file that the argument names or from standard input, and prints its report.
 #![tactic(auto)]
+
 use program::print_line;
 use t1read::Reading;
 

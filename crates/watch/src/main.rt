@@ -2,6 +2,7 @@
 // `report` prints of a line that is read at once. Before the file, `--payload FILE` puts the payload into that file as it
 // leaves, and `--phones` prints which channels change, as they are heard.
 #![tactic(auto)]
+
 mod asked;
 mod ear;
 

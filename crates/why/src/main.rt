@@ -1,6 +1,7 @@
 // Says of a place of a line that it stands, or why it does not. The place is the first argument; the line comes from the
 // file that the second names, or from standard input.
 #![tactic(auto)]
+
 use align::Why;
 use libc::STDOUT_FILENO;
 use pen::Pen;

@@ -15,8 +15,8 @@ decreases_loop from to₀ i₀ i-end to i = i-end - i
 
 loop_again : tie.Need-loop-i-preserved invariant_loop decreases_loop
 loop_again c =
-    let l = c.before.before.loop-i in
-    let from = c.before.before.before.args.from.now in (
+    let l = c.loop-i in
+    let from = c.args.from.now in (
       omega arith,
       l.invariant.1,
       simp length-set l.invariant.2,
@@ -25,8 +25,8 @@ loop_again c =
 
 returns : tie.Need-returns invariant_loop decreases_loop
 returns c =
-    let l = c.before.loop-i in
-    let from = c.before.before.args.from.now in
+    let l = c.loop-i in
+    let from = c.args.from.now in
     copy_done l.to from l.i (omega arith) (omega arith) l.invariant.3
 
 pub copy_spec : {M : Type 1} → statement M

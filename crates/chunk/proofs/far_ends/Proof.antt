@@ -7,16 +7,15 @@ use Rattle.chunk.proofs.far_ends.Tie as tie
 
 add_result : tie.Need-overflow_add-result
 add_result c =
-    let st = c.before.before.before.before in
-    let a = st.args in
+    let a = c.args in
     omega (
       arith,
-      c.before.far_end.ensures,
+      c.far_end.ensures,
       c.far_end-2.ensures,
       far_end_few a.near.now a.p a.m,
       far_end_few a.far.now a.q a.n,
-      st.requires.2,
-      st.requires.3,
+      c.requires.2,
+      c.requires.3,
     )
 
 pub far_ends_spec : {M : Type 1} → statement M

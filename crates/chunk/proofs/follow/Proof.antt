@@ -11,60 +11,44 @@ use Rattle.chunk.proofs.follow.Tie as tie
 
 returns : tie.Need-returns-then-m-h
 returns c =
-    let w = c.before.before in
-    let o = w.before.before in
-    let a = o.before.before.args in
+    let a = c.args in
     rw c.still.ensures
-    (stays a.c a.s.now (o.start_of-q.result % 8) w.before.kept-h.result w.whole-m.result (ap (λ x. x % 8) o.start_of-q.ensures)
-    w.before.kept-h.ensures w.whole-m.ensures c.before.if-m-h.true)
+    (stays a.c a.s.now (c.start_of-q.result % 8) c.kept-h.result c.whole-m.result (ap (λ x. x % 8) c.start_of-q.ensures)
+    c.kept-h.ensures c.whole-m.ensures c.if-m-h.true)
 
 -- what is tracked
-tracked : (t : tie.After-track-tracked) → let w = t.before.before in let o = w.before.before in
-    Tracks o.before.before.args.s.now (o.start_of-q.result % 8) w.before.kept-h.result t.track-tracked.result
+tracked : (t : tie.After-track-tracked) → Tracks t.args.s.now (t.start_of-q.result % 8) t.kept-h.result t.track-tracked.result
 tracked t =
-    let w = t.before.before in
-    let o = w.before.before in
     let e = t.track-tracked.ensures in
-    tracks o.before.before.args.s.now (o.start_of-q.result % 8) w.before.kept-h.result w.whole-m.result t.track-tracked.result
-    w.whole-m.ensures e.0 e.2 e.3 e.4 e.5 e.6
+    tracks t.args.s.now (t.start_of-q.result % 8) t.kept-h.result t.whole-m.result t.track-tracked.result
+    t.whole-m.ensures e.0 e.2 e.3 e.4 e.5 e.6
 
-few : (t : tie.After-track-tracked) → let n = length t.before.before.before.before.before.before.args.s.now in let x = t.track-tracked.result in
+few : (t : tie.After-track-tracked) → let n = length t.args.s.now in let x = t.track-tracked.result in
     (512 * x.used ≤ n) × (x.lost ≤ n) × (x.words ≤ n) × (x.wordbits ≤ n)
 few t =
-    let w = t.before.before in
-    let o = w.before.before in
-    tracked_few o.before.before.args.s.now (o.start_of-q.result % 8) w.before.kept-h.result t.track-tracked.result (tracked t)
+    tracked_few t.args.s.now (t.start_of-q.result % 8) t.kept-h.result t.track-tracked.result (tracked t)
 
 lost_by_requires : tie.Need-lost_by-lost-requires
 lost_by_requires c κs =
-    let t = c.before.before.before in
-    let st = t.before.before.before.before.before.before in
-    (omega (arith, st.requires.0.used), omega (arith, few t, st.requires.1))
+    (omega (arith, c.requires.0.used), omega (arith, few c.before.before.before, c.requires.1))
 
 gaining_requires : tie.Need-gaining-line-requires
 gaining_requires c κs =
-    let b = c.before.before in
-    let t = b.before.before in
-    let g = t.track-tracked.result.used in
-    let st = t.before.before.before.before.before.before in
-    let h = (few t).0 in (
-      small_more st.args.c (2 ^ 41) (2 ^ 50) (omega arith) st.requires.0,
-      omega (arith, gone_within (length st.args.s.now) g t.track-tracked.result.lost b.gone_by-gone.result h b.gone_by-gone.ensures, st.requires.1),
-      few_more b.before.gained-gain.result (56 * g) (2 ^ 50) (omega (arith, h, st.requires.1)) b.before.gained-gain.ensures.few,
+    let g = c.track-tracked.result.used in
+    let h = (few c.before.before.before.before).0 in (
+      small_more c.args.c (2 ^ 41) (2 ^ 50) (omega arith) c.requires.0,
+      omega (arith, gone_within (length c.args.s.now) g c.track-tracked.result.lost c.gone_by-gone.result h c.gone_by-gone.ensures, c.requires.1),
+      few_more c.gained-gain.result (56 * g) (2 ^ 50) (omega (arith, h, c.requires.1)) c.gained-gain.ensures.few,
     )
 
 returns_2 : tie.Need-returns
 returns_2 c =
-    let l = c.before in
-    let b = l.before.before in
-    let t = b.before.before in
-    let w = t.before.before in
-    let o = w.before.before in
-    let a = o.before.before.args in
-    follows a.c a.s.now (o.start_of-q.result % 8) w.before.kept-h.result t.track-tracked.result b.before.gained-gain.result
-    (ap (λ x. x % 8) o.start_of-q.ensures) w.before.kept-h.ensures
-    (omega (arith, t.before.if-m-h.false, whole_is a.s.now (o.start_of-q.result % 8), w.whole-m.ensures)) (tracked t) b.before.gained-gain.ensures
-    b.gone_by-gone.result l.lost_by-lost.result c.gaining-line.result b.gone_by-gone.ensures l.lost_by-lost.ensures c.gaining-line.ensures
+    let a = c.args in
+    follows a.c a.s.now (c.start_of-q.result % 8) c.kept-h.result c.track-tracked.result c.gained-gain.result
+    (ap (λ x. x % 8) c.start_of-q.ensures) c.kept-h.ensures
+    (omega (arith, c.if-m-h.false, whole_is a.s.now (c.start_of-q.result % 8), c.whole-m.ensures))
+    (tracked c.before.before.before.before.before) c.gained-gain.ensures
+    c.gone_by-gone.result c.lost_by-lost.result c.gaining-line.result c.gone_by-gone.ensures c.lost_by-lost.ensures c.gaining-line.ensures
 
 pub follow_spec : {M : Type 1} → statement M
 follow_spec =
@@ -77,7 +61,7 @@ follow_spec =
     returns
     (search rules)
     (search rules)
-    (λ c κs. omega (arith, few c.before, c.before.before.before.before.before.before.before.requires.1))
+    (λ c κs. omega (arith, few c.before, c.requires.1))
     (search rules)
     lost_by_requires
     gaining_requires

@@ -20,10 +20,9 @@ roomy c = (start_within c.args.s.now c.args.place c.args.k c.requires.2, omega (
 
 follow_requires : tie.Need-follow-x-requires
 follow_requires c κs =
-    let st = c.before.before.before in
-    let s = st.args.s.now in
-    let e = (st.args.place + 512 * st.args.k) / 8 in
-    let r = roomy st in (
+    let s = c.args.s.now in
+    let e = (c.args.place + 512 * c.args.k) / 8 in
+    let r = roomy c.before.before.before in (
       rw c.unread.ensures record {
         before = omega arith;
         start = omega arith;
@@ -38,10 +37,10 @@ follow_requires c κs =
     )
 
 -- what is seen lies in the image
-ends : (f : tie.After-follow-x) → let n = length f.before.before.before.before.args.s.now in
+ends : (f : tie.After-follow-x) → let n = length f.args.s.now in
     (f.follow-x.result.from ≤ 8 * n) × (f.follow-x.result.gone ≤ n)
 ends f =
-    let a = f.before.before.before.before.args in
+    let a = f.args in
     let s = a.s.now in
     let e = (a.place + 512 * a.k) / 8 in
     let l = rw (to_end s e) at f.follow-x.ensures in
@@ -49,14 +48,12 @@ ends f =
 
 returns : tie.Need-returns
 returns c =
-    let f = c.before.before.before in
-    let u = f.before in
-    let a = u.before.before.before.args in
+    let a = c.args in
     let s = a.s.now in
     let e = (a.place + 512 * a.k) / 8 in
-    let r = roomy u.before.before.before in
-    looks_as (ap (λ (y : Line). read_from y (drop e s)) (sym u.unread.ensures))
-    (from_octet s (read_from u.unread.result (drop e s)) f.follow-x.result e (omega arith) (rw (to_end s e) at f.follow-x.ensures))
+    let r = roomy c.before.before.before.before.before.before.before in
+    looks_as (ap (λ (y : Line). read_from y (drop e s)) (sym c.unread.ensures))
+    (from_octet s (read_from c.unread.result (drop e s)) c.follow-x.result e (omega arith) (rw (to_end s e) at c.follow-x.ensures))
 
 pub from_place_spec : {M : Type 1} → statement M
 from_place_spec =
@@ -72,7 +69,7 @@ from_place_spec =
     (λ c. let r = roomy c.before.before in omega arith)
     (search rules)
     follow_requires
-    (λ c. let f = c.before.before in let r = roomy f.before.before.before.before in omega (arith, ends f))
-    (λ c. let f = c.before.before in let r = roomy f.before.before.before.before in omega arith)
-    (λ c. let f = c.before.before.before in let r = roomy f.before.before.before.before in omega (arith, ends f))
+    (λ c. let r = roomy c.before.before.before.before.before.before in omega (arith, ends c.before.before))
+    (λ c. let r = roomy c.before.before.before.before.before.before in omega arith)
+    (λ c. let r = roomy c.before.before.before.before.before.before.before in omega (arith, ends c.before.before.before))
     returns)

@@ -9,13 +9,10 @@ use Rattle.chunk.proofs.gained.Tie as tie
 
 returns : tie.Need-returns
 returns c =
-    let j = c.before in
-    let d = j.before in
-    let st = d.before.before.before in
-    let a = st.args in
-    gains_some a.s.now a.q a.h a.g a.words a.wordbits j.judge-errored.result c.far_end-farend.result st.requires.2 st.requires.3
-    (j.judge-errored.ensures
-    ∙ ap₂ (λ x y. disagreeing a.s.now (a.q + 2048 * x) (y - x)) d.before.compared-judged.ensures d.compared.ensures)
+    let a = c.args in
+    gains_some a.s.now a.q a.h a.g a.words a.wordbits c.judge-errored.result c.far_end-farend.result c.requires.2 c.requires.3
+    (c.judge-errored.ensures
+    ∙ ap₂ (λ x y. disagreeing a.s.now (a.q + 2048 * x) (y - x)) c.compared-judged.ensures c.compared.ensures)
     c.far_end-farend.ensures
 
 pub gained_spec : {M : Type 1} → statement M

@@ -6,8 +6,7 @@ use Rattle.chunk.proofs.gaining.Tie as tie
 
 add_line_6 : tie.Need-overflow_add-line-6
 add_line_6 c =
-    let st = c.before.before.before.before.before.before.before.before.before.before.before in
-    omega (arith, st.requires.0.wordbits, st.requires.2.wordbits)
+    omega (arith, c.requires.0.wordbits, c.requires.2.wordbits)
 
 pub gaining_spec : {M : Type 1} → statement M
 gaining_spec =

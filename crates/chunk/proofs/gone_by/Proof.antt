@@ -13,5 +13,5 @@ gone_by_spec =
     (tie.spec
     (search rules)
     (search rules)
-    (λ c. rw (eq-eqb c.before.before.args.lost 0 (omega arith)) (ap (λ x. 512 * x) c.less.ensures))
-    (λ c. rw (ne_eqb c.before.args.lost 0 (λ e. omega arith))))
+    (λ c. rw (eq-eqb c.args.lost 0 (omega arith)) (ap (λ x. 512 * x) c.less.ensures))
+    (λ c. rw (ne_eqb c.args.lost 0 (λ e. omega arith))))

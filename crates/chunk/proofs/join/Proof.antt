@@ -15,16 +15,13 @@ front c = length-take-le (length c.args.window.now) c.args.image.now (omega (ari
 
 returns : tie.Need-returns
 returns c =
-    let j = c.before.before in
-    let k = j.before.before.before.before in
-    let st = k.before.before.before.before.before in
-    let a = st.args in
-    let fits : length a.window.now ≤ length a.image.now = omega (arith, st.requires) in (
+    let a = c.args in
+    let fits : length a.window.now ≤ length a.image.now = omega (arith, c.requires) in (
       refl,
-      both_length a.window.now k.copy.new.to a.image.now k.copy.ensures fits a.chunk.now j.copy-2.new.to
-          j.copy-2.ensures st.requires,
-      both_put a.window.now k.copy.new.to a.image.now k.copy.ensures fits a.chunk.now j.copy-2.new.to
-          j.copy-2.ensures st.requires,
+      both_length a.window.now c.copy.new.to a.image.now c.copy.ensures fits a.chunk.now c.copy-2.new.to
+          c.copy-2.ensures c.requires,
+      both_put a.window.now c.copy.new.to a.image.now c.copy.ensures fits a.chunk.now c.copy-2.new.to
+          c.copy-2.ensures c.requires,
     )
 
 pub join_spec : {M : Type 1} → statement M

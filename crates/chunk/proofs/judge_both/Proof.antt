@@ -7,17 +7,15 @@ use Rattle.chunk.proofs.judge_both.Tie as tie
 
 add_result : tie.Need-overflow_add-result
 add_result c =
-    let j = c.before.before in
-    let st = j.before.before.before.before.before in
-    let a = st.args in
+    let a = c.args in
     omega (
       arith,
-      j.judge_by.ensures,
+      c.judge_by.ensures,
       c.judge_by-2.ensures,
       disagreeing_few a.near.now a.p a.m,
       disagreeing_few a.far.now a.q a.n,
-      st.requires.2,
-      st.requires.3,
+      c.requires.2,
+      c.requires.3,
     )
 
 pub judge_both_spec : {M : Type 1} → statement M

@@ -9,17 +9,15 @@ use Rattle.chunk.proofs.keep.Tie as tie
 
 copy_requires : tie.Need-copy-requires
 copy_requires c κs =
-    let st = c.before.before.before.before in
-    let s = st.args.s.now in
-    let gone = st.args.gone in
-    kept_fits s st.args.window.now gone st.requires.1 ∙ sym (ap length (to_end s gone) ∙ length-drop gone s)
+    let s = c.args.s.now in
+    let gone = c.args.gone in
+    kept_fits s c.args.window.now gone c.requires.1 ∙ sym (ap length (to_end s gone) ∙ length-drop gone s)
 
 returns : tie.Need-returns
 returns c =
-    let k = c.before.before in
-    let a = k.before.before.before.before.before.args in
+    let a = c.args in
     let s = a.s.now in
-    (sym (length-drop a.gone s), kept_put s a.window.now a.gone k.copy.new.to k.copy.ensures)
+    (sym (length-drop a.gone s), kept_put s a.window.now a.gone c.copy.new.to c.copy.ensures)
 
 pub keep_spec : {M : Type 1} → statement M
 keep_spec =
@@ -29,8 +27,8 @@ keep_spec =
     (search rules)
     (search rules)
     (search rules)
-    (λ c. let st = c.before.before.before in omega (arith, length-drop st.args.gone st.args.s.now, st.requires.1))
-    (λ c. let st = c.before.before.before.before in sym (kept_fits st.args.s.now st.args.window.now st.args.gone st.requires.1))
+    (λ c. omega (arith, length-drop c.args.gone c.args.s.now, c.requires.1))
+    (λ c. sym (kept_fits c.args.s.now c.args.window.now c.args.gone c.requires.1))
     copy_requires
     (search rules)
     returns)

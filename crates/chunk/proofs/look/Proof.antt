@@ -12,34 +12,29 @@ use Rattle.chunk.proofs.look.Tie as tie
 
 follow_requires : tie.Need-follow-requires
 follow_requires c κs =
-    let st = c.before.before.before.before.before.before in
-    (small_more st.args.c (2 ^ 40) (2 ^ 41) (omega arith) st.requires.0, st.requires.1)
+    (small_more c.args.c (2 ^ 40) (2 ^ 41) (omega arith) c.requires.0, c.requires.1)
 
 returns : tie.Need-returns-then-c-eq0
 returns c =
-    let m = c.before.before.before.before in
-    let a = m.before.before.before.args in
-    looks_as (found_reads a.c _ _ m.found-1.given.1 a.s.now c.before.if-c-eq0.true) c.follow.ensures
+    let a = c.args in
+    looks_as (found_reads a.c _ _ c.in-At.is a.s.now c.if-c-eq0.true) c.follow.ensures
 
 returns_2 : tie.Need-returns-else-c-eq0
 returns_2 c =
-    let m = c.before.before.before.before in
-    let a = m.before.before.before.args in
+    let a = c.args in
     rw c.passed.ensures
-    (looks_as (lost_passes a.c _ _ m.found-1.given.1 a.s.now (omega (arith, c.before.if-c-eq0.false))) (passes_look a.s.now a.c))
+    (looks_as (lost_passes a.c _ _ c.in-At.is a.s.now (omega (arith, c.if-c-eq0.false))) (passes_look a.s.now a.c))
 
 returns_3 : tie.Need-returns-in-BasicAt
 returns_3 c =
-    let m = c.before.before in
-    let a = m.before.before.before.args in
-    looks_as (ap (λ o. grown_by o a.c.lost a.c a.s.now) m.found-in-BasicAt-1.given.1) c.search.ensures
+    let a = c.args in
+    looks_as (ap (λ o. grown_by o a.c.lost a.c a.s.now) c.in-BasicAt.is) c.search.ensures
 
 returns_4 : tie.Need-returns-in-Nothing
 returns_4 c =
-    let m = c.before in
-    let a = m.before.before.before.args in
-    looks_as (ap (λ o. grown_by o a.c.lost a.c a.s.now) m.enum_told-1.given.1)
-    (rw m.enum_told-1.given.1 at c.search-in-Nothing.ensures)
+    let a = c.args in
+    looks_as (ap (λ o. grown_by o a.c.lost a.c a.s.now) c.in-Nothing.is)
+    (rw c.in-Nothing.is at c.search-in-Nothing.ensures)
 
 pub look_spec : {M : Type 1} → statement M
 look_spec =

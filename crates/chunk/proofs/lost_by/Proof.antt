@@ -9,7 +9,7 @@ pub lost_by_spec : {M : Type 1} → statement M
 lost_by_spec =
     tie.close
     (tie.spec
-    (λ c. rw (eq-eqb c.before.args.lost 0 (omega arith)))
+    (λ c. rw (eq-eqb c.args.lost 0 (omega arith)))
     (search rules)
     (search rules)
-    (λ c. rw (ne_eqb c.before.args.lost 0 (λ e. omega arith))))
+    (λ c. rw (ne_eqb c.args.lost 0 (λ e. omega arith))))

@@ -10,12 +10,10 @@ use Rattle.chunk.proofs.put_payloads.Tie as tie
 
 returns : tie.Need-returns
 returns c =
-    let two = c.before.before in
-    let one = two.before.before.before.before in
-    let a = one.before.before.before.before.before.args in
+    let a = c.args in
     two_outputs (payload_of a.near.now a.p a.m) (payload_of a.far.now a.q a.n) a.out.now _ _
     (496 * a.m) (496 * a.n) (496 * (a.m + a.n))
-    (payload_length a.near.now a.p a.m) one.payload_of.ensures two.payload_of-2.ensures (omega arith)
+    (payload_length a.near.now a.p a.m) c.payload_of.ensures c.payload_of-2.ensures (omega arith)
 
 pub put_payloads_spec : {M : Type 1} → statement M
 put_payloads_spec =

@@ -10,12 +10,10 @@ use Rattle.chunk.proofs.put_slots0.Tie as tie
 
 returns : tie.Need-returns
 returns c =
-    let two = c.before.before in
-    let one = two.before.before.before.before in
-    let a = one.before.before.before.before.before.args in
+    let a = c.args in
     two_outputs (slot0_of a.near.now a.p a.m) (slot0_of a.far.now a.q a.n) a.out.now _ _
     (16 * a.m) (16 * a.n) (16 * (a.m + a.n))
-    (slot0_length a.near.now a.p a.m) one.slot0_of.ensures two.slot0_of-2.ensures (omega arith)
+    (slot0_length a.near.now a.p a.m) c.slot0_of.ensures c.slot0_of-2.ensures (omega arith)
 
 pub put_slots0_spec : {M : Type 1} → statement M
 put_slots0_spec =

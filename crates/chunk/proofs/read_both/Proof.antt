@@ -38,26 +38,25 @@ there c =
 
 judge_both_requires : tie.Need-judge_both-errored-requires
 judge_both_requires c κs =
-    let k = c.before in
-    let j = k.before in
-    let st = j.before.before.before.before.before in
-    let f = (few st).0 in
-    let g = (few_far st).0 in
-    let x : k.compared.result ≡ compared st.args.x.used = k.compared.ensures in
-    let y : c.compared-2.result ≡ compared st.args.y.used = c.compared-2.ensures in (
-      λ o. record { countable = omega (arith, st.requires.1); there = omega (arith, (there st).0) },
-      λ o. record { countable = omega (arith, st.requires.2); there = omega (arith, (there st).1) },
+    let t = c.before.before.before.before.before.before.before in
+    let f = (few t).0 in
+    let g = (few_far t).0 in
+    let x : c.compared.result ≡ compared c.args.x.used = c.compared.ensures in
+    let y : c.compared-2.result ≡ compared c.args.y.used = c.compared-2.ensures in (
+      λ o. record { countable = omega (arith, c.requires.1); there = omega (arith, (there t).0) },
+      λ o. record { countable = omega (arith, c.requires.2); there = omega (arith, (there t).1) },
       omega arith,
       omega arith,
     )
 
 far_ends_requires : tie.Need-far_ends-farend-requires
 far_ends_requires c κs =
-    let st = c.before.before.before.before.before.before.before.before in
-    let f = (few st).0 in
-    let g = (few_far st).0 in (
-      record { countable = omega (arith, st.requires.1); there = omega (arith, (there st).0, st.requires.5.at_least) },
-      record { countable = omega (arith, st.requires.2); there = omega (arith, (there st).1, st.requires.8.at_least) },
+    let u = c.before.before.before.before.before.before.before.before in
+    let t = u in
+    let f = (few t).0 in
+    let g = (few_far t).0 in (
+      record { countable = omega (arith, c.requires.1); there = omega (arith, (there t).0, c.requires.5.at_least) },
+      record { countable = omega (arith, c.requires.2); there = omega (arith, (there t).1, c.requires.8.at_least) },
       omega arith,
       omega arith,
     )
@@ -71,16 +70,13 @@ gone_few c =
 
 -- where all is added
 abbrev start : tie.After-far_ends-farend → tie.Start
-start f = f.before.before.before.before.before.before.before.before.before
+start f =
+    let t = f.before.before.before.before.before.before.before.before.before in
+    t
 
 gaining_requires : tie.Need-gaining-requires
 gaining_requires c κs =
-    let f = c.before.before.before.before.before.before.before in
-    let j = f.before in
-    let k3 = j.before in
-    let k2 = k3.before in
-    let k1 = k2.before in
-    let st = start f in
+    let st = start c.before.before.before.before.before.before.before in
     let a = st.args in
     let x = few st in
     let y = few_far st in (
@@ -92,16 +88,16 @@ gaining_requires c κs =
         errored =
             omega (
               arith,
-              j.judge_both-errored.ensures,
-              disagreeing_few a.near.now (a.q + 2048 * k1.compared-judged.result) (k2.compared.result - k1.compared-judged.result),
-              disagreeing_few a.far.now (a.q + 2048) (k3.compared-2.result - 1),
-              k2.compared.ensures,
-              k3.compared-2.ensures,
+              c.judge_both-errored.ensures,
+              disagreeing_few a.near.now (a.q + 2048 * c.compared-judged.result) (c.compared.result - c.compared-judged.result),
+              disagreeing_few a.far.now (a.q + 2048) (c.compared-2.result - 1),
+              c.compared.ensures,
+              c.compared-2.ensures,
             );
         farend =
             omega (
               arith,
-              f.far_ends-farend.ensures,
+              c.far_ends-farend.ensures,
               far_end_few a.near.now (a.q + 4096 * a.h) (a.x.used - a.h),
               far_end_few a.far.now (a.q + 4096) (a.y.used - 1),
             );
@@ -110,18 +106,15 @@ gaining_requires c κs =
     )
 
 -- the blocks of both
-errored : (j : tie.After-judge_both-errored) → let a = j.before.before.before.before.before.before.before.before.args in
+errored : (j : tie.After-judge_both-errored) → let a = j.args in
     j.judge_both-errored.result
     ≡ disagreeing a.near.now (a.q + 2048 * compared a.h) (compared a.x.used - compared a.h)
     + disagreeing a.far.now (a.q + 2048) (compared a.y.used - 1)
 errored j =
-    let k3 = j.before in
-    let k2 = k3.before in
-    let k1 = k2.before in
-    let a = k1.before.before.before.before.before.args in
-    blocks a.near.now a.far.now a.q k1.compared-judged.result (compared a.h) k2.compared.result (compared a.x.used)
-    k3.compared-2.result (compared a.y.used) j.judge_both-errored.result k1.compared-judged.ensures k2.compared.ensures
-    k3.compared-2.ensures j.judge_both-errored.ensures
+    let a = j.args in
+    blocks a.near.now a.far.now a.q j.compared-judged.result (compared a.h) j.compared.result (compared a.x.used)
+    j.compared-2.result (compared a.y.used) j.judge_both-errored.result j.compared-judged.ensures j.compared.ensures
+    j.compared-2.ensures j.judge_both-errored.ensures
   where
     blocks : (near far : List ℕ) (q u u' v v' w w' n : ℕ) → u ≡ u' → v ≡ v' → w ≡ w'
         → n ≡ disagreeing near (q + 2048 * u) (v - u) + disagreeing far (q + 2048) (w - 1)
@@ -133,15 +126,14 @@ errored j =
 
 returns : tie.Need-returns
 returns c =
-    let l = c.before in
-    let f = l.before.before.before.before.before.before.before in
-    let j = f.before in
-    let st = start f in
+    let t = c.before.before.before.before.before.before.before.before in
+    let u = t.before in
+    let st = start t in
     let a = st.args in
     c.gaining.ensures
     ∙ both_line a.c a.near.now a.q a.h a.x st.requires.3 st.requires.4 st.requires.5 st.requires.6 st.requires.7 a.far.now a.y
-    st.requires.8 a.gone l.lost_by.result st.requires.9 l.lost_by.ensures j.judge_both-errored.result f.far_ends-farend.result (errored j)
-    f.far_ends-farend.ensures
+    st.requires.8 a.gone c.lost_by.result st.requires.9 c.lost_by.ensures c.judge_both-errored.result c.far_ends-farend.result (errored u)
+    c.far_ends-farend.ensures
 
 pub read_both_spec : {M : Type 1} → statement M
 read_both_spec =

@@ -11,45 +11,32 @@ use Rattle.chunk.proofs.search.Tie as tie
 
 from_place_requires : tie.Need-from_place-requires
 from_place_requires c κs =
-    let m = c.before in
-    let f = m.before.before in
-    let st = f.before.before in
-    (st.requires.0, st.requires.1, sym f.find-found.ensures ∙ m.found-1.given.1)
+    (c.requires.0, c.requires.1, sym c.find-found.ensures ∙ c.in-At.is)
 
 add_noted : tie.Need-overflow_add-before
 add_noted c =
-    let m = c.before in
-    let f = m.before.before in
-    let st = f.before.before in
-    let b = ((finds_basic st.args.s.now _).0 (sym f.find-found.ensures ∙ m.found-in-BasicAt-1.given.1)).0.room in
-    omega (arith, b, st.requires.0, st.requires.1)
+    let b = ((finds_basic c.args.s.now _).0 (sym c.find-found.ensures ∙ c.in-BasicAt.is)).0.room in
+    omega (arith, b, c.requires.0, c.requires.1)
 
 returns : tie.Need-returns-in-At
 returns c =
-    let m = c.before.before in
-    let f = m.before.before in
-    let a = f.before.before.args in
-    looks_as (ap (searched a.before a.known a.s.now) (sym f.find-found.ensures ∙ m.found-1.given.1)) c.from_place.ensures
+    let a = c.args in
+    looks_as (ap (searched a.before a.known a.s.now) (sym c.find-found.ensures ∙ c.in-At.is)) c.from_place.ensures
 
 returns_2 : tie.Need-returns-in-BasicAt
 returns_2 c =
-    let n = c.before in
-    let m = n.before.before in
-    let f = m.before.before in
-    let a = f.before.before.args in
+    let a = c.args in
     let s = a.s.now in
     rw c.waits.ensures
-    (looks_as (ap (searched a.before a.known s) (sym f.find-found.ensures ∙ m.found-in-BasicAt-1.given.1))
-    (rw n.noted.ensures (waits_look s a.before _)))
+    (looks_as (ap (searched a.before a.known s) (sym c.find-found.ensures ∙ c.in-BasicAt.is))
+    (rw c.noted.ensures (waits_look s a.before _)))
 
 returns_3 : tie.Need-returns-in-Nothing
 returns_3 c =
-    let m = c.before in
-    let f = m.before.before in
-    let a = f.before.before.args in
+    let a = c.args in
     let s = a.s.now in
     rw c.waits-in-Nothing.ensures
-    (looks_as (ap (searched a.before a.known s) (sym f.find-found.ensures ∙ m.enum_told-1.given.1)) (waits_look s a.before a.known))
+    (looks_as (ap (searched a.before a.known s) (sym c.find-found.ensures ∙ c.in-Nothing.is)) (waits_look s a.before a.known))
 
 pub search_spec : {M : Type 1} → statement M
 search_spec =

@@ -11,10 +11,10 @@ start_of_spec =
     tie.close
     (tie.spec
     (search rules)
-    (λ c. omega (arith, ap start_of c.before.found-1.given.1, c.before.before.before.requires))
-    (λ c. omega (arith, ap start_of c.before.found-1.given.1, c.before.before.before.requires))
+    (λ c. omega (arith, ap start_of c.in-At.is, c.requires))
+    (λ c. omega (arith, ap start_of c.in-At.is, c.requires))
     (search rules)
     (search rules)
-    (λ c. sym (ap start_of c.before.found-1.given.1))
+    (λ c. sym (ap start_of c.in-At.is))
     (λ c. search rules)
     (λ c. search rules))

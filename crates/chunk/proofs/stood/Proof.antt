@@ -12,12 +12,11 @@ never e = absurd (subst T (sym e) tt)
 
 returns : tie.Need-returns-in-At
 returns c =
-    let f = c.before.before in
     λ e. record {
       p = _;
       k = _;
-      stands = f.found-1.given.1;
-      not_lost = eqb-true f.before.before.args.c.lost 0 e;
+      stands = c.in-At.is;
+      not_lost = eqb-true c.args.c.lost 0 e;
     }
 
 pub stood_spec : {M : Type 1} → statement M

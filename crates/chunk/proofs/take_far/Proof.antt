@@ -19,46 +19,41 @@ long c =
     near_length a.near.now (take a.fill a.window.now) a.chunk.now a.fill a.n (full c) c.requires.4 c.requires.6
 
 -- what is kept of the first image lies in the chunk
-far : (l : tie.After-look-x) → let a = l.before.before.before.before.before.before.args in let g = l.look-x.result.gone in
+far : (l : tie.After-look-x) → let a = l.args in let g = l.look-x.result.gone in
     (a.fill ≤ g) × (g - a.fill ≤ a.n)
 far l =
-    let st = l.before.before.before.before.before.before in
-    let a = st.args in
-    lies_in_chunk a.near.now (take a.fill a.window.now) a.chunk.now a.fill a.n (full st) st.requires.4 st.requires.6
-    a.c l.look-x.result l.look-x.ensures st.requires.7
+    let a = l.args in
+    lies_in_chunk a.near.now (take a.fill a.window.now) a.chunk.now a.fill a.n (full l.before.before.before.before.before.before) l.requires.4 l.requires.6
+    a.c l.look-x.result l.look-x.ensures l.requires.7
 
 look_requires : tie.Need-look-x-requires
 look_requires c κs =
-    let st = c.before.before.before.before.before in
-    (small_more st.args.c (2 ^ 39) (2 ^ 40) (omega arith) st.requires.0, omega (arith, long st, st.requires.2, st.requires.3))
+    (small_more c.args.c (2 ^ 39) (2 ^ 40) (omega arith) c.requires.0, omega (arith, long c.before.before.before.before.before, c.requires.2, c.requires.3))
 
 take_two_requires : tie.Need-take_two-requires
 take_two_requires c κs =
-    let l = c.before.before.before.before.before in
-    let st = l.before.before.before.before.before.before in
-    let n = l.look-x.result.gone - st.args.fill in (
-      st.requires.0,
-      omega (arith, long st, st.requires.2, st.requires.3),
-      rw (to_end st.args.chunk.now n) (omega (arith, length-drop n st.args.chunk.now, st.requires.5)),
-      st.requires.1,
-      l.look-x.ensures,
+    let t = c.before.before.before.before.before.before.before.before.before.before.before in
+    let n = c.look-x.result.gone - c.args.fill in (
+      c.requires.0,
+      omega (arith, long t, c.requires.2, c.requires.3),
+      rw (to_end c.args.chunk.now n) (omega (arith, length-drop n c.args.chunk.now, c.requires.5)),
+      c.requires.1,
+      c.look-x.ensures,
     )
 
 returns : tie.Need-returns
 returns c =
-    let t = c.before.before.before.before.before.before in
-    let l = t.before.before.before.before.before.before in
-    let st = l.before.before.before.before.before.before in
-    let a = st.args in
+    let t = c.before.before.before.before.before.before.before.before.before.before.before.before.before.before.before.before.before.before in
+    let a = c.args in
     takes_as
-    (cut_there a.near.now (take a.fill a.window.now) a.chunk.now a.fill a.n (full st) st.requires.4 st.requires.6
-    a.c l.look-x.result l.look-x.ensures st.requires.7)
-    t.take_two.ensures
+    (cut_there a.near.now (take a.fill a.window.now) a.chunk.now a.fill a.n (full t) c.requires.4 c.requires.6
+    a.c c.look-x.result c.look-x.ensures c.requires.7)
+    c.take_two.ensures
 
 -- the part of the chunk
-starts : (l : tie.After-look-x) → let a = l.before.before.before.before.before.before.args in
+starts : (l : tie.After-look-x) → let a = l.args in
     l.look-x.result.gone - a.fill ≤ length a.chunk.now
-starts l = omega (arith, (far l).1, l.before.before.before.before.before.before.requires.4)
+starts l = omega (arith, (far l).1, l.requires.4)
 
 pub take_far_spec : {M : Type 1} → statement M
 take_far_spec =

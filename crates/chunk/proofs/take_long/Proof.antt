@@ -16,34 +16,32 @@ full c = filled c.args.window.now c.args.fill c.requires.1 c.requires.2
 near : (c : tie.Start) → length (take 2048 c.args.chunk.now) ≡ 2048
 near c = length-take-le 2048 c.args.chunk.now c.requires.3
 
-zeros : (i : tie.After-image-1) → length i.before.before.before.zeros_4096-image.result ≡ 4096
-zeros i = zeros_length i.before.before.before.zeros_4096-image.result 4096 i.before.before.before.zeros_4096-image.ensures
+zeros : (i : tie.After-image-1) → length i.zeros_4096-image.result ≡ 4096
+zeros i = zeros_length i.zeros_4096-image.result 4096 i.zeros_4096-image.ensures
 
 -- the image
 fits : (j : tie.After-join-e) → j.join-e.result ≤ 4096
 fits j =
-    let st = j.before.before.before.before.before.before.before.before.before in
-    omega (arith, j.join-e.ensures.0, full st, near st, st.requires.2)
+    let t = j.before.before.before.before.before.before.before in
+    omega (arith, j.join-e.ensures.0, full t, near t, j.requires.2)
 
 long : (j : tie.After-join-e) → length (take j.join-e.result j.join-e.new.image) ≡ j.join-e.result
 long j =
-    let a = j.before.before.before.before.before.before.before.before.before.args in
+    let a = j.args in
     image_length (take a.fill a.window.now) (take 2048 a.chunk.now) j.join-e.new.image j.join-e.result j.join-e.ensures.0
     j.join-e.ensures.2
 
 take_far_requires : tie.Need-take_far-requires
-take_far_requires c κs =
-    let j = c.before.before.before.before.before in
-    let st = j.before.before.before.before.before.before.before.before.before in (
-      st.requires.0,
-      st.requires.1,
-      st.requires.2,
-      omega arith,
-      st.requires.3,
-      st.requires.4,
-      j.join-e.ensures.2,
-      grown_short st.args.c (take j.join-e.result j.join-e.new.image),
-    )
+take_far_requires c κs = (
+  c.requires.0,
+  c.requires.1,
+  c.requires.2,
+  omega arith,
+  c.requires.3,
+  c.requires.4,
+  c.join-e.ensures.2,
+  grown_short c.args.c (take c.join-e.result c.join-e.new.image),
+)
 
 pub take_long_spec : {M : Type 1} → statement M
 take_long_spec =
@@ -51,16 +49,15 @@ take_long_spec =
     (tie.spec
     (search rules)
     (search rules)
-    (λ c. sym (full c.before.before.before.before.before.before))
-    (λ c. sym (near c.before.before.before.before.before.before.before))
+    (λ c. sym (full c.before.before.before.before.before))
+    (λ c. sym (near c.before.before.before.before.before))
     (λ c. sym (zeros c))
     (λ c κs.
-    let st = c.before.before.before.before.before.before.before.before in
-    omega (arith, full st, near st, zeros c, st.requires.2))
-    (λ c. let j = c.before in omega (arith, fits j, j.join-e.ensures.1, zeros j.before))
+    omega (arith, full c.before.before.before.before.before.before, near c.before.before.before.before.before.before, zeros c, c.requires.2))
+    (λ c. omega (arith, fits c.before, c.join-e.ensures.1, zeros c.before.before))
     (λ c. sym (long c.before.before))
     take_far_requires
     (search rules)
     (search rules)
     (search rules)
-    (λ c. c.before.before.before.before.before.before.take_far.ensures))
+    (λ c. c.take_far.ensures))

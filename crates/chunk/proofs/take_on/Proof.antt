@@ -33,12 +33,14 @@ part c =
 near : (c : tie.Start) → length (take (octets c) c.args.chunk.now) ≡ octets c
 near c = length-take-le (octets c) c.args.chunk.now (part c).1
 
-zeros : (i : tie.After-image-1) → length i.before.before.before.zeros_2048-image.result ≡ 2048
-zeros i = zeros_length i.before.before.before.zeros_2048-image.result 2048 i.before.before.before.zeros_2048-image.ensures
+zeros : (i : tie.After-image-1) → length i.zeros_2048-image.result ≡ 2048
+zeros i = zeros_length i.zeros_2048-image.result 2048 i.zeros_2048-image.ensures
 
 -- the image
 abbrev start : tie.After-join-e → tie.Start
-start j = j.before.before.before.before.before.before.before.before.before.before
+start j =
+    let t = j.before.before.before.before.before.before.before.before in
+    t
 
 is : (j : tie.After-join-e) → j.join-e.result ≡ (start j).args.fill + octets (start j)
 is j = omega (arith, j.join-e.ensures.0, full (start j), near (start j))
@@ -58,51 +60,47 @@ long j =
 
 -- the start's bit
 abbrev bit : tie.After-join-e → ℕ
-bit j = j.before.before.before.before.before.start_of-q.result % 8
+bit j = j.start_of-q.result % 8
 
-whole_are : (w : tie.After-whole) → let j = w.before.before.before.before in
-    w.whole.result ≡ ((start j).args.fill + 511) / 512 + 1
+whole_are : (w : tie.After-whole) → w.whole.result ≡ ((start w.before.before.before.before).args.fill + 511) / 512 + 1
 whole_are w =
-    let j = w.before.before.before.before in
-    next_used (((start j).args.fill + 511) / 512) (bit j) j.join-e.result w.whole.result (omega arith) (is j ∙ ends (start j)) w.whole.ensures
+    let t = w.before.before.before.before in
+    next_used (((start t).args.fill + 511) / 512) (bit t) w.join-e.result w.whole.result (omega arith) (is t ∙ ends (start t)) w.whole.ensures
 
 track_requires : tie.Need-track-x-requires
 track_requires c κs =
-    let j = c.before.before.before.before in
-    let b : bit j ≤ 7 = omega arith in (
+    let t = c.before.before.before.before in
+    let b : bit t ≤ 7 = omega arith in (
       record {
-        countable = omega (arith, long j, fits j);
-        there = omega (arith, long j, is j, ends (start j), whole_are c, b);
+        countable = omega (arith, long t, fits t);
+        there = omega (arith, long t, is t, ends (start t), whole_are c, b);
       },
-      omega (arith, whole_are c, c.before.kept.ensures),
+      omega (arith, whole_are c, c.kept.ensures),
     )
 
-tracked : (t : tie.After-track-x) → let j = t.before.before.before.before.before in
-    Tracks (image j) (bit j) (kept_of (start j).args.c.used) t.track-x.result
+tracked : (t : tie.After-track-x) → let u = t.before.before.before.before.before in
+    Tracks (image u) (bit u) (kept_of t.args.c.used) t.track-x.result
 tracked t =
-    let w = t.before in
-    let k = w.before in
-    let j = k.before.before.before in
+    let u = t.before.before.before.before.before in
     let e = t.track-x.ensures in
-    subst (λ h. Tracks (image j) (bit j) h t.track-x.result) k.kept.ensures
-    (tracks (image j) (bit j) k.kept.result w.whole.result t.track-x.result
-    (w.whole.ensures ∙ ap (λ n. (8 * n - bit j) / 4096) (sym (long j))) e.0 e.2 e.3 e.4 e.5 e.6)
+    subst (λ h. Tracks (image u) (bit u) h t.track-x.result) t.kept.ensures
+    (tracks (image u) (bit u) t.kept.result t.whole.result t.track-x.result
+    (t.whole.ensures ∙ ap (λ n. (8 * n - bit u) / 4096) (sym (long u))) e.0 e.2 e.3 e.4 e.5 e.6)
 
 take_tracked_requires : tie.Need-take_tracked-requires
 take_tracked_requires c κs =
-    let t = c.before.before.before in
-    let j = t.before.before.before.before.before in
-    let st = start j in (
+    let t = c.before.before.before.before.before.before.before.before in
+    let st = start t in (
       st.requires.0,
       st.requires.1,
       st.requires.2,
       st.requires.3,
       st.requires.4,
       st.requires.5,
-      ap (λ n. n % 8) j.before.before.before.before.before.start_of-q.ensures,
+      ap (λ n. n % 8) c.start_of-q.ensures,
       ends st,
-      j.join-e.ensures.2,
-      tracked t,
+      c.join-e.ensures.2,
+      tracked c.before.before.before,
     )
 
 pub take_on_spec : {M : Type 1} → statement M
@@ -113,16 +111,14 @@ take_on_spec =
     (search rules)
     (search rules)
     (search rules)
-    (λ c. let st = c.before.before.before.before.before in omega (arith, (next_holds st.args.fill st.requires.3).0))
+    (λ c. omega (arith, (next_holds c.args.fill c.requires.3).0))
     (search rules)
     (search rules)
-    (λ c. sym (full c.before.before.before.before.before.before.before))
-    (λ c. sym (near c.before.before.before.before.before.before.before.before))
+    (λ c. sym (full c.before.before.before.before.before.before))
+    (λ c. sym (near c.before.before.before.before.before.before))
     (λ c. sym (zeros c))
-    (λ c κs.
-    let st = c.before.before.before.before.before.before.before.before.before in
-    omega (arith, full st, near st, zeros c, (part st).0))
-    (λ c. let j = c.before in omega (arith, fits j, j.join-e.ensures.1, zeros j.before))
+    (λ c κs. let t = c.before.before.before.before.before.before.before in omega (arith, full t, near t, zeros c, (part t).0))
+    (λ c. omega (arith, fits c.before, c.join-e.ensures.1, zeros c.before.before))
     (λ c. sym (long c.before.before))
     (search rules)
     (λ c κs. omega (arith, fits c.before.before.before))
@@ -131,4 +127,4 @@ take_on_spec =
     (search rules)
     (search rules)
     (search rules)
-    (λ c. c.before.before.before.before.before.before.take_tracked.ensures))
+    (λ c. c.take_tracked.ensures))

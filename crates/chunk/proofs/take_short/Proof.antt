@@ -13,33 +13,29 @@ use Rattle.chunk.proofs.take_short.Tie as tie
 full : (c : tie.Start) → length (take c.args.fill c.args.window.now) ≡ c.args.fill
 full c = filled c.args.window.now c.args.fill c.requires.1 (omega (arith, c.requires.2))
 
-zeros : (i : tie.After-image-1) → length i.before.before.zeros_2048-image.result ≡ 2048
-zeros i = zeros_length i.before.before.zeros_2048-image.result 2048 i.before.before.zeros_2048-image.ensures
+zeros : (i : tie.After-image-1) → length i.zeros_2048-image.result ≡ 2048
+zeros i = zeros_length i.zeros_2048-image.result 2048 i.zeros_2048-image.ensures
 
 -- the image
 fits : (j : tie.After-join-n) → j.join-n.result ≤ 2048
 fits j =
-    let st = j.before.before.before.before.before.before.before.before in
-    omega (arith, j.join-n.ensures.0, full st, st.requires.2)
+    omega (arith, j.join-n.ensures.0, full j.before.before.before.before.before.before.before, j.requires.2)
 
 long : (j : tie.After-join-n) → length (take j.join-n.result j.join-n.new.image) ≡ j.join-n.result
 long j =
-    let a = j.before.before.before.before.before.before.before.before.args in
+    let a = j.args in
     image_length (take a.fill a.window.now) a.chunk.now j.join-n.new.image j.join-n.result j.join-n.ensures.0
     j.join-n.ensures.2
 
 take_image_requires : tie.Need-take_image-requires
 take_image_requires c κs =
-    let j = c.before.before.before.before.before in
-    let st = j.before.before.before.before.before.before.before.before in
-    (st.requires.0, omega (arith, long j, fits j), st.requires.1)
+    let t = c.before.before.before.before.before in
+    (c.requires.0, omega (arith, long t, fits t), c.requires.1)
 
 returns : tie.Need-returns
 returns c =
-    let t = c.before.before.before.before.before.before in
-    let j = t.before.before.before.before.before.before in
-    let a = j.before.before.before.before.before.before.before.before.args in
-    takes_as (ap (grown a.c) (sym j.join-n.ensures.2)) t.take_image.ensures
+    let a = c.args in
+    takes_as (ap (grown a.c) (sym c.join-n.ensures.2)) c.take_image.ensures
 
 pub take_short_spec : {M : Type 1} → statement M
 take_short_spec =
@@ -47,10 +43,10 @@ take_short_spec =
     (tie.spec
     (search rules)
     (search rules)
-    (λ c. sym (full c.before.before.before.before.before.before))
+    (λ c. sym (full c.before.before.before.before.before))
     (λ c. sym (zeros c))
-    (λ c κs. let st = c.before.before.before.before.before.before.before in omega (arith, full st, zeros c, st.requires.2))
-    (λ c. let j = c.before in omega (arith, fits j, j.join-n.ensures.1, zeros j.before))
+    (λ c κs. omega (arith, full c.before.before.before.before.before.before, zeros c, c.requires.2))
+    (λ c. omega (arith, fits c.before, c.join-n.ensures.1, zeros c.before.before))
     (λ c. sym (long c.before.before))
     take_image_requires
     (search rules)

@@ -30,20 +30,20 @@ long c =
 
 take_far_requires : tie.Need-take_far-requires
 take_far_requires c κs =
-    let t = c.before.before.before in
-    let st = t.before.before.before.before.before.before.before in
-    let a = st.args in
-    let s = st.requires.1 in
+    let u = c.before.before.before.before.before.before.before.before.before.before in
+    let t = u in
+    let a = c.args in
+    let s = c.requires.1 in
     let e : length (grown a.c a.near.now).window ≡ 0 =
     ap (λ (y : Grown). length y.window) (found_reads a.c s.p s.k s.stands a.near.now s.not_lost)
-    ∙ lost_keeps_none a.c a.near.now a.q a.x st.requires.6 st.requires.9 t.if-x-ne0.true in (
-      st.requires.0,
-      st.requires.2,
-      omega (arith, st.requires.3),
-      omega (arith, (part st).0),
-      (part st).1,
-      st.requires.5,
-      st.requires.8,
+    ∙ lost_keeps_none a.c a.near.now a.q a.x c.requires.6 c.requires.9 c.if-x-ne0.true in (
+      c.requires.0,
+      c.requires.2,
+      omega (arith, c.requires.3),
+      omega (arith, (part t).0),
+      (part t).1,
+      c.requires.5,
+      c.requires.8,
       omega arith,
     )
 
@@ -70,8 +70,8 @@ from e = omega (arith, (gone e).1, (gone e).2, (start e).requires.4)
 
 take_both_requires : tie.Need-take_both-requires
 take_both_requires c κs =
-    let e = c.before.before.before.before.before in
-    let st = start e in
+    let t = c.before.before.before.before.before in
+    let st = start t in
     let a = st.args in
     let n = 512 * (a.x.used - 1) - a.fill in
     let far = to_end a.chunk.now n in
@@ -82,21 +82,21 @@ take_both_requires c κs =
       st.requires.2,
       st.requires.6,
       st.requires.9,
-      e.if-x-ne0.false,
-      (gone e).0,
-      rw (far, whole_is) (omega (arith, rest, (gone e).1, (gone e).2, st.requires.4, st.requires.6)),
+      c.if-x-ne0.false,
+      (gone t).0,
+      rw (far, whole_is) (omega (arith, rest, (gone t).1, (gone t).2, st.requires.4, st.requires.6)),
     )
 
 returns_2 : tie.Need-returns
 returns_2 c =
-    let t = c.before.before.before.before.before.before in
-    let e = t.before.before.before.before.before.before in
-    let st = start e in
+    let u = c.before.before.before.before.before.before.before.before.before.before.before.before in
+    let t = u in
+    let st = start t in
     let a = st.args in
     takes_as
     (cut_both a.c a.near.now (take a.fill a.window.now) a.chunk.now a.fill a.n a.q a.x (full st) (part st).1
-    st.requires.8 st.requires.1 st.requires.6 st.requires.9 e.if-x-ne0.false (gone e).0 (gone e).1)
-    t.take_both.ensures
+    st.requires.8 st.requires.1 st.requires.6 st.requires.9 c.if-x-ne0.false (gone t).0 (gone t).1)
+    c.take_both.ensures
 
 pub take_tracked_spec : {M : Type 1} → statement M
 take_tracked_spec =
@@ -106,7 +106,7 @@ take_tracked_spec =
     (search rules)
     (search rules)
     (search rules)
-    (λ c. c.before.before.before.before.before.before.take_far.ensures)
+    (λ c. c.take_far.ensures)
     (λ c. (gone c.before).0)
     (λ c. omega (arith, (gone c.before).2))
     (λ c. (gone c.before).1)

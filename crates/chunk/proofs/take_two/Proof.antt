@@ -15,85 +15,67 @@ use Rattle.chunk.proofs.take_two.Tie as tie
 
 look_requires : tie.Need-look-y-requires
 look_requires c κs =
-    let st = c.before.before.before.before.before.before in
-    let a = st.args in (
-      small_more a.x.line (2 ^ 39 + length a.near.now) (2 ^ 40) (omega (arith, st.requires.1))
-          (small_then a.c a.near.now a.x st.requires.4 (2 ^ 39) st.requires.0),
-      st.requires.2,
+    let a = c.args in (
+      small_more a.x.line (2 ^ 39 + length a.near.now) (2 ^ 40) (omega (arith, c.requires.1))
+          (small_then a.c a.near.now a.x c.requires.4 (2 ^ 39) c.requires.0),
+      c.requires.2,
     )
 
 -- the multiframes of both are few
-few : (l : tie.After-look-y) → let st = l.before.before.before.before.before.before.before in
-    (st.args.x.multiframes ≤ 1073741824) × (l.look-y.result.multiframes ≤ 1073741824)
+few : (l : tie.After-look-y) → (l.args.x.multiframes ≤ 1073741824) × (l.look-y.result.multiframes ≤ 1073741824)
 few l =
-    let st = l.before.before.before.before.before.before.before in
-    (omega (arith, st.requires.4.there, st.requires.1), omega (arith, l.look-y.ensures.there, st.requires.2))
+    (omega (arith, l.requires.4.there, l.requires.1), omega (arith, l.look-y.ensures.there, l.requires.2))
 
 -- what both tell
-both : (l : tie.After-look-y) → let a = l.before.before.before.before.before.before.before.args in
+both : (l : tie.After-look-y) → let a = l.args in
     after (grown a.c a.near.now) (grown a.x.line a.far.now)
     ≡ after (told a.near.now a.x) (told a.far.now l.look-y.result)
-both l = ap₂ after l.before.before.before.before.before.before.before.requires.4.tells l.look-y.ensures.tells
+both l = ap₂ after l.requires.4.tells l.look-y.ensures.tells
 
 returns : tie.Need-returns-then-lacks_room
 returns c =
-    let k = c.before.before in
-    let l = k.before in
-    let a = l.before.before.before.before.before.before.before.args in
+    let a = c.args in
     rw c.lacking.ensures
-    (takes_as (both l)
+    (takes_as (both c.before.before.before)
     (not_taken a.c a.fill a.window.now a.payload.now a.slot0.now
-    (after (told a.near.now a.x) (told a.far.now l.look-y.result))
-    (sym k.lacks_room.ensures ∙ c.before.if-lacks_room.true)))
+    (after (told a.near.now a.x) (told a.far.now c.look-y.result))
+    (sym c.lacks_room.ensures ∙ c.if-lacks_room.true)))
 
 -- there is room
 room : (c : tie.Else-lacks_room)
-    → let l = c.before.before in
-    let a = l.before.before.before.before.before.before.before.args in
-    lacks_room (length a.payload.now) (length a.slot0.now) (a.x.multiframes + l.look-y.result.multiframes) ≡ false
-room c = sym c.before.lacks_room.ensures ∙ c.if-lacks_room.false
+    → let a = c.args in
+    lacks_room (length a.payload.now) (length a.slot0.now) (a.x.multiframes + c.look-y.result.multiframes) ≡ false
+room c = sym c.lacks_room.ensures ∙ c.if-lacks_room.false
 
 put_payloads_requires : tie.Need-put_payloads-requires
-put_payloads_requires c κs =
-    let e = c.before in
-    let l = e.before.before in
-    let st = l.before.before.before.before.before.before.before in (
-      record { countable = omega (arith, st.requires.1); there = st.requires.4.there },
-      record { countable = omega (arith, st.requires.2); there = l.look-y.ensures.there },
-      (has_room _ _ _ (room e)).0,
-    )
+put_payloads_requires c κs = (
+  record { countable = omega (arith, c.requires.1); there = c.requires.4.there },
+  record { countable = omega (arith, c.requires.2); there = c.look-y.ensures.there },
+  (has_room _ _ _ (room c.before)).0,
+)
 
 put_slots0_requires : tie.Need-put_slots0-requires
-put_slots0_requires c κs =
-    let e = c.before.before.before.before.before in
-    let l = e.before.before in
-    let st = l.before.before.before.before.before.before.before in (
-      record { countable = omega (arith, st.requires.1); there = st.requires.4.there },
-      record { countable = omega (arith, st.requires.2); there = l.look-y.ensures.there },
-      (has_room _ _ _ (room e)).1,
-    )
+put_slots0_requires c κs = (
+  record { countable = omega (arith, c.requires.1); there = c.requires.4.there },
+  record { countable = omega (arith, c.requires.2); there = c.look-y.ensures.there },
+  (has_room _ _ _ (room c.before.before.before.before.before)).1,
+)
 
 keep_requires : tie.Need-keep-requires
-keep_requires c κs =
-    let e = c.before.before.before.before.before.before.before.before.before.before in
-    let l = e.before.before in
-    let st = l.before.before.before.before.before.before.before in (
-      l.look-y.ensures.within,
-      omega (arith, kept_short st.args.x.line st.args.far.now l.look-y.result l.look-y.ensures, st.requires.3),
-    )
+keep_requires c κs = (
+  c.look-y.ensures.within,
+  omega (arith, kept_short c.args.x.line c.args.far.now c.look-y.result c.look-y.ensures, c.requires.3),
+)
 
 returns_2 : tie.Need-returns
 returns_2 c =
-    let k = c.before.before in
-    let o = k.before.before.before.before.before in
-    let p = o.before.before.before.before in
-    let e = p.before.before in
-    let l = e.before.before in
-    let a = l.before.before.before.before.before.before.before.args in
-    takes_as (both l)
+    let t = c.before.before.before.before.before.before.before.before.before.before.before.before.before in
+    let u = t.before.before in
+    let a = c.args in
+    takes_as (both u)
     (taken_two a.c a.fill a.window.now a.payload.now a.slot0.now a.near.now a.far.now a.x
-    l.look-y.result k.keep.result k.keep.ensures.0 (room e) _ _ _ k.keep.ensures.1 p.put_payloads.ensures
-    o.put_slots0.ensures)
+    c.look-y.result c.keep.result c.keep.ensures.0 (room t) _ _ _ c.keep.ensures.1 c.put_payloads.ensures
+    c.put_slots0.ensures)
 
 pub take_two_spec : {M : Type 1} → statement M
 take_two_spec =

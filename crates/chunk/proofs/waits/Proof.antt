@@ -8,8 +8,8 @@ use Rattle.chunk.proofs.waits.Tie as tie
 
 returns : tie.Need-returns
 returns c =
-    let a = c.before.before.args in
-    let e = c.before.less-gone.ensures in
+    let a = c.args in
+    let e = c.less-gone.ensures in
     λ i. record {
       line = (c.unread-line.ensures ∙ ap (λ x. unread (a.before + x) a.found) e) i;
       gone = e i;

@@ -15,6 +15,6 @@ pub cause_by_spec : {M : Type 1} → statement M
 cause_by_spec =
     tie.close
     (tie.spec
-    (λ c. sym (ap (by c.before.args.lost) (eq-eqb c.before.args.lost 0 c.if1.true)))
+    (λ c. sym (ap (by c.before.args.lost) (eq-eqb c.before.args.lost 0 c.if-lost-eq0.true)))
     (search rules)
-    (λ c. sym (ap (by c.before.args.lost) (ne_eqb c.before.args.lost 0 c.if1.false))))
+    (λ c. sym (ap (by c.before.args.lost) (ne_eqb c.before.args.lost 0 c.if-lost-eq0.false))))

@@ -19,7 +19,7 @@ returns : tie.Need-returns
 unfolding is_over
 returns c =
     let s = c.before.before.before.before.before.before.before in
-    ap (over_by s.before.before.before.before.args.stream) s.is-far.ensures
+    ap (over_by s.before.before.before.before.args.stream) s.is_far.ensures
 
 pub is_over_spec : {M : Type 1} → statement M
 is_over_spec = tie.close (tie.spec (search rules) returns)
