@@ -143,7 +143,7 @@ live_without_key s cs e =
 -- What stands in place of a map that is not there changes nothing: states that are the same without it answer every run
 -- the same.
 
-inner {ℓ} : {A : Type ℓ} (t : Bool) (x y z : A) → (if t then (if t then x else y) else z) ≡ (if t then x else z)
+inner : {A : Type 0} (t : Bool) (x y z : A) → (if t then (if t then x else y) else z) ≡ (if t then x else z)
 inner true x y z = refl
 inner false x y z = refl
 

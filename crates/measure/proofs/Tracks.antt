@@ -120,7 +120,7 @@ module _ {s : List ℕ} {q h i j : ℕ} {t : Tracking} (p : Passed s q h i j t) 
       (none_lost p.words_run (λ k. 2 * k) (8 * (m - h)) (omega arith))
       (none_lost p.bits2_run (λ k. 2 * k + 1) (8 * (m - h)) (omega arith))
 
-if_not {ℓ} : {A : Type ℓ} (b : Bool) (x y : A) → (if b then x else y) ≡ (if not b then y else x)
+if_not : {A : Type 0} (b : Bool) (x y : A) → (if b then x else y) ≡ (if not b then y else x)
 if_not true x y = refl
 if_not false x y = refl
 
