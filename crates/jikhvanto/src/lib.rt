@@ -1,7 +1,7 @@
 // The C interface: each entry of the kit, over a state in lent octets and an answer in lent places.
 #![tactic(auto)]
 
-pub mod t1;
+pub mod superframes;
 
 ghost use Rattle.std.specs.Prelude.{◌≡◌, [], ◌∷◌, ◌++◌, ◌+◌, ◌≤◌, ◌<◌, length, drop, eqb};
 ghost use Rattle.align.specs.Place.{place_of};

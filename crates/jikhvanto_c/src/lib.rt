@@ -1,7 +1,7 @@
 // The C interface: each entry of `jikhvanto` under its name in C, with its contract.
 #![tactic(auto)]
 
-pub mod t1;
+pub mod superframes;
 
 ghost use Rattle.jikhvanto.specs.Calls.{JkBoundary, JkEnd, JkFeed, JkHost, JkKey, JkMap, JkRead, JkSignals, JkStart, JkStreamStart, JkWhy, JkWrite, JkWriteSignalled};
 

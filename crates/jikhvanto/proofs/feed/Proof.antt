@@ -7,30 +7,22 @@ use Rattle.jikhvanto.proofs.StreamLaws.{window_whole, window_put, fed_taken, fed
 use Rattle.jikhvanto.proofs.feed.Statement.{statement}
 use Rattle.jikhvanto.proofs.feed.Tie as tie
 
-returns : tie.Need-returns
+returns : tie.Need-returns-then-fed-eq0
 returns c =
-    let s = c.before.before in
-    let t = s.before.before.before in
-    let w = t.before.before.before.before.before.before.before.before in
-    let u = w.before.before.before.before in
-    let b = u.before.before.before.before.before.before in
-    let a = b.args in
+    let a = c.args in
     let octets = a.octets.now in
-    fed_taken octets a.chunk.now a.payload.now a.slot0.now w.feed.result w.feed.new.1.0 w.feed.new.1.1.1.0
-    w.feed.new.1.1.1.1.0 u.unpack-stream.result _ u.unpack-stream.ensures (window_whole octets b.requires) w.feed.ensures
-    s.store-numbers.new.1.0 t.if1.true
-    (s.store-numbers.ensures ∙ ap (λ l. spelt_numbers (stream_numbers w.feed.result.stream) ++ l) (window_put octets b.requires w.feed.new.1.0))
+    fed_taken octets a.chunk.now a.payload.now a.slot0.now c.feed-fed.result c.feed-fed.new.window c.feed-fed.new.payload
+    c.feed-fed.new.slot0 c.unpack_stream-stream.result _ c.unpack_stream-stream.ensures (window_whole octets c.requires) c.feed-fed.ensures
+    c.store_numbers.new.octets c.if-fed-eq0.true
+    (c.store_numbers.ensures ∙ ap (λ l. spelt_numbers (stream_numbers c.feed-fed.result.stream) ++ l) (window_put octets c.requires c.feed-fed.new.window))
 
-returns_2 : tie.Need-returns-2
+returns_2 : tie.Need-returns-else-fed-eq0
 returns_2 c =
-    let w = c.before.before.before.before.before.before.before.before in
-    let u = w.before.before.before.before in
-    let b = u.before.before.before.before.before.before in
-    let a = b.args in
+    let a = c.args in
     let octets = a.octets.now in
-    fed_refused octets a.chunk.now a.payload.now a.slot0.now w.feed.result w.feed.new.1.0 w.feed.new.1.1.1.0
-    w.feed.new.1.1.1.1.0 u.unpack-stream.result _ u.unpack-stream.ensures (window_whole octets b.requires) w.feed.ensures
-    _ b.requires c.if1.false refl
+    fed_refused octets a.chunk.now a.payload.now a.slot0.now c.feed-fed.result c.feed-fed.new.window c.feed-fed.new.payload
+    c.feed-fed.new.slot0 c.unpack_stream-stream.result _ c.unpack_stream-stream.ensures (window_whole octets c.requires) c.feed-fed.ensures
+    _ c.requires c.if-fed-eq0.false refl
 
 pub feed_spec : {M : Type 1} → statement M
 feed_spec =

@@ -6,4 +6,4 @@ use Rattle.jikhvanto.proofs.give_pair.Tie as tie
 
 pub give_pair_spec : {M : Type 1} → statement M
 unfolding pair_places
-give_pair_spec = tie.close (tie.spec (λ c κs. search rules) (λ c. c.give-four.ensures.1))
+give_pair_spec = tie.close (tie.spec (λ c κs. search rules) (λ c. c.give_four.ensures.1))

@@ -7,8 +7,8 @@ use lib.ListN.{get_or-eq_default}
 use Rattle.jikhvanto.proofs.is_reading.Statement.{statement}
 use Rattle.jikhvanto.proofs.is_reading.Tie as tie
 
-returns : tie.Need-returns
-returns c = sym (ap (λ k. eqb k 3) (get_or-eq_default c.before.args.octets.now 0 {n = 0} (omega (arith, c.if1.true))))
+returns : tie.Need-returns-then-octets-eq0
+returns c = sym (ap (λ k. eqb k 3) (get_or-eq_default c.before.args.octets.now 0 {n = 0} (omega (arith, c.if-octets-eq0.true))))
 
 pub is_reading_spec : {M : Type 1} → statement M
 is_reading_spec = tie.close (tie.spec returns (search rules) (λ c. refl))

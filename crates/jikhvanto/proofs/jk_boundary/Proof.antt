@@ -9,10 +9,10 @@ use Rattle.jikhvanto.proofs.jk_boundary.Tie as tie
 returns : tie.Need-returns
 returns c =
     let d = c.before.before in
-    let e = d.boundary.ensures ∙ ap crossed d.before.unpack.ensures in
+    let e = d.boundary.ensures ∙ ap crossed d.unpack.ensures in
     record {
       its_number = c.store.ensures.0 ∙ ap (λ a. a.number) e;
-      its_state = c.store.ensures.1 ∙ ap (stored d.before.before.before.args.state.now) e;
+      its_state = c.store.ensures.1 ∙ ap (stored d.args.state.now) e;
     }
 
 pub jk_boundary_spec : {M : Type 1} → statement M

@@ -6,22 +6,22 @@ use Rattle.jikhvanto.proofs.StreamLaws.{ended_taken, ended_refused}
 use Rattle.jikhvanto.proofs.jk_end.Statement.{statement}
 use Rattle.jikhvanto.proofs.jk_end.Tie as tie
 
-returns : tie.Need-returns
+returns : tie.Need-returns-then-r-eq0
 returns c =
     let t = c.before.before.before in
     let g = t.before.before in
     let w = g.before.before.before in
     let u = w.before in
-    ended_taken u.before.before.before.args.stream.now w.end.result (w.end.ensures ∙ ap ending u.unpack-stream.ensures)
-    g.give-reading.new.1.0 g.give-reading.ensures t.if1.true c.store-numbers.new.1.0 c.store-numbers.ensures
+    ended_taken u.before.before.before.args.stream.now w.end-ended.result (w.end-ended.ensures ∙ ap ending u.unpack_stream.ensures)
+    g.give_reading.new.answer g.give_reading.ensures t.if-r-eq0.true c.store_numbers.new.octets c.store_numbers.ensures
 
-returns_2 : tie.Need-returns-2
+returns_2 : tie.Need-returns-else-r-eq0
 returns_2 c =
     let g = c.before.before in
     let w = g.before.before.before in
     let u = w.before in
-    ended_refused u.before.before.before.args.stream.now w.end.result (w.end.ensures ∙ ap ending u.unpack-stream.ensures)
-    g.give-reading.new.1.0 g.give-reading.ensures c.if1.false
+    ended_refused u.before.before.before.args.stream.now w.end-ended.result (w.end-ended.ensures ∙ ap ending u.unpack_stream.ensures)
+    g.give_reading.new.answer g.give_reading.ensures c.if-r-eq0.false
 
 pub jk_end_spec : {M : Type 1} → statement M
 jk_end_spec =

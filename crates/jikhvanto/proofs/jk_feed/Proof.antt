@@ -7,7 +7,7 @@ use Rattle.jikhvanto.proofs.jk_feed.Tie as tie
 returns : tie.Need-returns
 returns c =
     let w = c.before.before.before.before.before.before in
-    fed_placed w.feed.ensures.0 w.feed.ensures.1 c.give-pair.ensures
+    fed_placed w.feed-fed.ensures.0 w.feed-fed.ensures.1 c.give_pair.ensures
 
 pub jk_feed_spec : {M : Type 1} → statement M
 jk_feed_spec = tie.close (tie.spec (λ c κs. search rules) (λ c κs. search rules) (search rules) (search rules) returns)

@@ -9,8 +9,8 @@ use Rattle.jikhvanto.proofs.jk_key.Tie as tie
 returns : tie.Need-returns
 returns c =
     let d = c.before.before in
-    let a = d.before.before.before.args in
-    let e = d.key.ensures ∙ ap (λ s. keyed s a.position) d.before.unpack.ensures in
+    let a = d.args in
+    let e = d.key.ensures ∙ ap (λ s. keyed s a.position) d.unpack.ensures in
     record {
       its_number = c.store.ensures.0 ∙ ap (λ a. a.number) e;
       its_state = c.store.ensures.1 ∙ ap (stored a.state.now) e;

@@ -19,7 +19,7 @@ placed {s} {p} {o} {p'} {o'} {r = r} h e =
     }
 
 returns : tie.Need-returns
-returns c = placed c.before.before.before.before.before.before.read.ensures c.give-reading.ensures
+returns c = placed c.before.before.before.before.before.before.read-r.ensures c.give_reading.ensures
 
 pub jk_read_spec : {M : Type 1} → statement M
 jk_read_spec = tie.close (tie.spec (λ c κs. search rules) (λ c κs. search rules) (search rules) (search rules) returns)

@@ -19,7 +19,7 @@ placed {s} {out} {out'} {r = r} h e =
     }
 
 returns : tie.Need-returns
-returns c = placed c.before.before.before.before.signals.ensures c.give-signalling.ensures
+returns c = placed c.before.before.before.before.signals-r.ensures c.give_signalling.ensures
 
 pub jk_signals_spec : {M : Type 1} → statement M
 jk_signals_spec = tie.close (tie.spec (λ c κs. search rules) (λ c κs. search rules) (search rules) returns)

@@ -10,8 +10,8 @@ returns : tie.Need-returns
 returns c =
     let said = c.before.before.why.ensures in
     record {
-      its_number = c.give-why.ensures.0 ∙ ap why_number said;
-      its_answer = c.give-why.ensures.1 ∙ ap why_places said;
+      its_number = c.give_why.ensures.0 ∙ ap why_number said;
+      its_answer = c.give_why.ensures.1 ∙ ap why_places said;
     }
 
 pub jk_why_spec : {M : Type 1} → statement M

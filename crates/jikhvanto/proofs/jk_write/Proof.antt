@@ -20,7 +20,7 @@ placed {p} {o} {k} {out} {out'} {w = w} h e =
     }
 
 returns : tie.Need-returns
-returns c = placed c.before.before.before.before.write.ensures c.give-pair.ensures
+returns c = placed c.before.before.before.before.write-w.ensures c.give_pair.ensures
 
 pub jk_write_spec : {M : Type 1} → statement M
 jk_write_spec = tie.close (tie.spec (λ c κs. search rules) (λ c κs. search rules) (search rules) returns)

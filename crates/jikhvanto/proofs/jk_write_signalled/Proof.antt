@@ -21,7 +21,7 @@ placed {p} {o} {k} {xy} {v} {out} {out'} {w = w} h e =
     }
 
 returns : tie.Need-returns
-returns c = placed c.before.before.before.before.write_signalled.ensures c.give-pair.ensures
+returns c = placed c.before.before.before.before.write_signalled-w.ensures c.give_pair.ensures
 
 pub jk_write_signalled_spec : {M : Type 1} → statement M
 jk_write_signalled_spec = tie.close (tie.spec (λ c κs. search rules) (λ c κs. search rules) (search rules) returns)

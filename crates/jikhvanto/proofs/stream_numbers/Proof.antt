@@ -7,7 +7,7 @@ use Rattle.jikhvanto.proofs.stream_numbers.Tie as tie
 
 returns : tie.Need-returns
 unfolding stream_numbers
-returns c = rw (c.before.before.found_number.ensures, c.before.place_of.ensures, c.k-of.ensures) refl
+returns c = rw (c.before.before.found_number.ensures, c.before.place_of.ensures, c.k_of.ensures) refl
 
 pub stream_numbers_spec : {M : Type 1} → statement M
 stream_numbers_spec =

@@ -9,7 +9,7 @@ returns : tie.Need-returns
 unfolding state_of
 returns c =
     let d = c.before.before.before in
-    rw (d.before.before.before.before.map_at.ensures, d.before.before.map-at2.ensures, d.map-at3.ensures) refl
+    rw (d.before.before.before.before.map_at-live.ensures, d.before.before.map_at-staged.ensures, d.map_at-waiting.ensures) refl
 
 pub unpack_spec : {M : Type 1} → statement M
 unpack_spec =

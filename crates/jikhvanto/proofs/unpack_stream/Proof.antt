@@ -13,18 +13,18 @@ returns c =
     let f = l₃.before in
     let p = f.before.before in
     λ i. record {
-      ended = eqb (c.before.number-at2.ensures i) 1;
-      fill = c.length-at10.ensures i;
+      ended = eqb (c.before.number_at-2.ensures i) 1;
+      fill = c.length_at-10.ensures i;
       line = record {
-        before = l₃.length-at3.ensures i;
-        found = (f.found-by.ensures
-            ∙ λ j. found_by (p.before.number_at.ensures j) (p.length_at.ensures j) (f.before.length-at2.ensures j)) i;
-        used = c.before.before.before.before.before.before.before.length-at4.ensures i;
-        lost = c.before.before.before.before.before.before.length-at5.ensures i;
-        words = c.before.before.before.before.before.length-at6.ensures i;
-        errored = c.before.before.before.before.length-at7.ensures i;
-        farend = c.before.before.before.length-at8.ensures i;
-        wordbits = c.before.before.length-at9.ensures i;
+        before = l₃.length_at-3.ensures i;
+        found = (f.found_by-found.ensures
+            ∙ λ j. found_by (p.before.number_at.ensures j) (p.length_at.ensures j) (f.before.length_at-2.ensures j)) i;
+        used = c.before.before.before.before.before.before.before.length_at-4.ensures i;
+        lost = c.before.before.before.before.before.before.length_at-5.ensures i;
+        words = c.before.before.before.before.before.length_at-6.ensures i;
+        errored = c.before.before.before.before.length_at-7.ensures i;
+        farend = c.before.before.before.length_at-8.ensures i;
+        wordbits = c.before.before.length_at-9.ensures i;
       };
     }
 

@@ -7,8 +7,8 @@ use Rattle.t1read.specs.Entry.{Read}
 use Rattle.t1read.specs.declared.Reading.{Reading}
 use Rattle.jikhvanto.specs.Octets.{t1_reading_places}
 use Rattle.jikhvanto.specs.Calls.{JkT1Read}
-use Rattle.jikhvanto.proofs.t1.jk_t1_read.Statement.{statement}
-use Rattle.jikhvanto.proofs.t1.jk_t1_read.Tie as tie
+use Rattle.jikhvanto.proofs.superframes.jk_t1_read.Statement.{statement}
+use Rattle.jikhvanto.proofs.superframes.jk_t1_read.Tie as tie
 
 placed : {s p l p' l' answer : List ℕ} {r : Reading} → Read s p l r p' l' → answer ≡ t1_reading_places r
     → JkT1Read s p l r.number p' l' answer
@@ -20,7 +20,7 @@ placed {s} {p} {l} {p'} {l'} {r = r} h e =
     }
 
 returns : tie.Need-returns
-returns c = placed c.before.before.before.before.before.before.read.ensures c.give-t1-reading.ensures
+returns c = placed c.before.before.before.before.before.before.read-r.ensures c.give_t1_reading.ensures
 
 pub jk_t1_read_spec : {M : Type 1} → statement M
 jk_t1_read_spec = tie.close (tie.spec (λ c κs. search rules) (λ c κs. search rules) (search rules) (search rules) returns)

@@ -12,7 +12,7 @@ pub extern "C" fn jk_t1_read(
     ensures { JkT1Read image.now payload.old link.old
         result payload.new link.new answer.new }
 {
-    jikhvanto::t1::jk_t1_read(image, payload, link, answer)
+    jikhvanto::superframes::jk_t1_read(image, payload, link, answer)
 }
 
 // superframes are written
@@ -27,7 +27,7 @@ pub extern "C" fn jk_t1_write(
     ensures { JkT1Write payload.now link.now check out.old
         result out.new answer.new }
 {
-    jikhvanto::t1::jk_t1_write(payload, link, check, out, answer)
+    jikhvanto::superframes::jk_t1_write(payload, link, check, out, answer)
 }
 
 // superframes are written with signalling
@@ -43,5 +43,5 @@ pub extern "C" fn jk_t1_write_signalled(
     ensures { JkT1WriteSignalled payload.now link.now check signalling.now
         out.old result out.new answer.new }
 {
-    jikhvanto::t1::jk_t1_write_signalled(payload, link, check, signalling, out, answer)
+    jikhvanto::superframes::jk_t1_write_signalled(payload, link, check, signalling, out, answer)
 }

@@ -7,8 +7,8 @@ use Rattle.t1write.specs.Entry.{Wrote}
 use Rattle.t1write.specs.declared.Written.{Written}
 use Rattle.jikhvanto.specs.Octets.{pair_places}
 use Rattle.jikhvanto.specs.Calls.{JkT1Write}
-use Rattle.jikhvanto.proofs.t1.jk_t1_write.Statement.{statement}
-use Rattle.jikhvanto.proofs.t1.jk_t1_write.Tie as tie
+use Rattle.jikhvanto.proofs.superframes.jk_t1_write.Statement.{statement}
+use Rattle.jikhvanto.proofs.superframes.jk_t1_write.Tie as tie
 
 placed : {p l : List ℕ} {k : ℕ} {out out' answer : List ℕ} {w : Written} → Wrote p l k out w out'
     → answer ≡ pair_places w.number w.check
@@ -21,7 +21,7 @@ placed {p} {l} {k} {out} {out'} {w = w} h e =
     }
 
 returns : tie.Need-returns
-returns c = placed c.before.before.before.before.write.ensures c.give-pair.ensures
+returns c = placed c.before.before.before.before.write-w.ensures c.give_pair.ensures
 
 pub jk_t1_write_spec : {M : Type 1} → statement M
 jk_t1_write_spec = tie.close (tie.spec (λ c κs. search rules) (λ c κs. search rules) (search rules) returns)
