@@ -11,6 +11,9 @@ ghost use Rattle.console.specs.Line.{octet_count, Follows};
 
 use exchange::{Answered, State};
 use parse::Asked;
+use program::Source;
+use std::io::{IsTerminal, Read};
+use std::rt::Files;
 
 // the next octet of the input, or its end
 #[derive(Drop)]
@@ -20,14 +23,14 @@ enum Came {
 }
 
 // A read that fails ends the input too, and is said.
-fn next(fd: i32, name: &[u8]) -> Came {
+fn next<S: Read, F: Read>(source: &mut Source<S, F>, name: &[u8]) -> Came {
     let mut octet = [0u8; 1];
-    let got = libc::read(fd, &mut octet);
-    if got == 1 {
+    let got = program::read_once(source, &mut octet);
+    if got.n == 1 {
         return Came::Octet(octet[0]);
     }
-    if got < 0 {
-        program::fail(b"console", name);
+    if let Err(why) = got.ok {
+        program::fail(b"console", name, why);
     }
     Came::End
 }
@@ -40,12 +43,12 @@ struct Typed {
 }
 
 // Keeps what there is room for. Nothing says that a line ends, so its octets are counted.
-fn read_line(fd: i32, name: &[u8], line: &mut [u8]) -> Typed
+fn read_line<S: Read, F: Read>(source: &mut Source<S, F>, name: &[u8], line: &mut [u8]) -> Typed
     ensures { IsPrefixLen result.n line.new }
 {
     let mut n = 0;
     for _octet in 0..u64::MAX {
-        let Came::Octet(x) = next(fd, name) else {
+        let Came::Octet(x) = next(source, name) else {
             break;
         };
         if x == b'\n' {
@@ -85,30 +88,43 @@ struct Turn {
 
 // No line over 80 octets is known, so one octet more is enough to know that it is longer. A last line without an end is
 // answered too. Only who types is prompted.
-fn play(state: State, fd: i32, name: &[u8]) -> Turn
+fn play<S: Read + IsTerminal, F: Read + IsTerminal>(
+    rt: &(impl Files + Print),
+    state: State,
+    source: &mut Source<S, F>,
+    name: &[u8],
+) -> Turn
     ensures { Follows state result.state }
 {
     let mut line = [0u8; 81];
     let mut octets = [0u8; 8];
-    let prompted = libc::isatty(fd) != 1 || program::print(b"> ");
-    let typed = read_line(fd, name, &mut line);
+    let prompted = if program::is_terminal(source) {
+        program::print(rt, b"> ")
+    } else {
+        Ok(())
+    };
+    let typed = read_line(source, name, &mut line);
     let n = typed.n;
     let asked = parse::line(&line[..n], &mut octets);
     let a = called(state, asked, &octets);
-    let ok = prompted & tell::answer(state, a, asked, &octets, &line[..n]);
+    let ok = prompted.and(tell::answer(rt, state, a, asked, &octets, &line[..n]));
     program::written(b"console", ok);
     let after = a.state;
     Turn {
         state: after,
-        more: ok & typed.more & !parse::is_quit(asked),
+        more: ok.is_ok() & typed.more & !parse::is_quit(asked),
     }
 }
 
 // Nothing says that the input ends, so its lines are counted.
-fn dialogue(fd: i32, name: &[u8]) {
+fn dialogue<S: Read + IsTerminal, F: Read + IsTerminal>(
+    rt: &(impl Files + Print),
+    source: &mut Source<S, F>,
+    name: &[u8],
+) {
     let mut state = exchange::start();
     for _line in 0..u64::MAX {
-        let turn = play(state, fd, name);
+        let turn = play(rt, state, source, name);
         state = turn.state;
         if !turn.more {
             break;
@@ -116,11 +132,11 @@ fn dialogue(fd: i32, name: &[u8]) {
     }
 }
 
-fn main() {
+fn main(rt: HostRuntime) {
     let mut path = io::buffer();
-    let input = program::open(b"console", 1, &mut path);
-    if input.fd >= 0 {
-        let n = input.n;
-        dialogue(input.fd, &path[..n]);
+    let input = program::open(&rt, b"console", 1, &mut path);
+    let n = input.n;
+    if let Some(mut source) = input.source {
+        dialogue(&rt, &mut source, &path[..n]);
     }
 }

@@ -56,7 +56,7 @@ pub const NO_OCTET: usize = 15;
 
 // the key, to a position; a host record, of so many octets; a boundary; what is shown, by its command; a picture of the
 // live map; what is wrong, by its command or by one of the numbers above; nothing, as an empty line or a remark; the end
-#[derive(Drop)]
+#[derive(Clone, Copy)]
 pub enum Asked {
     Key(u64),
     Host(usize),

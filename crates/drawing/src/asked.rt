@@ -6,16 +6,17 @@ use crate::ruler;
 use align::Why;
 use pen::Pen;
 use read::Reading;
+use std::io::Write;
 
 // the place that a picture is to mark, if any, and what is said of it
-#[derive(Drop)]
+#[derive(Clone, Copy)]
 pub enum Asked {
     Nothing,
     Place { place: usize, why: Why },
 }
 
 // what is said of a place, in words
-pub fn said(pen: Pen, why: Why) -> Pen {
+pub fn said<W: Write + Drop>(pen: Pen<W>, why: Why) -> Pen<W> {
     match why {
         Why::NoneFails { k } => pen.fill(b"stands, k %", &[k]),
         Why::FirstWord { bit } => pen.fill(b"first word wrong at bit %", &[bit]),
@@ -27,14 +28,14 @@ pub fn said(pen: Pen, why: Why) -> Pen {
 }
 
 // a mark at x along the bar
-fn mark(pen: Pen, x: usize, place: usize, why: Why) -> Pen {
+fn mark<W: Write + Drop>(pen: Pen<W>, x: usize, place: usize, why: Why) -> Pen<W> {
     let pen = pen.fill(b"<g class='asked'><path d='M% -4V70'/>", &[x]);
     let pen = ruler::beside(pen, x, 70);
     said(pen.fill(b"asked: place %, ", &[place]), why).text(b"</text></g>\n")
 }
 
 // on the bar of a line of so many octets; a place past its end is marked at the end
-pub fn marked(pen: Pen, octets: usize, asked: Asked) -> Pen
+pub fn marked<W: Write + Drop>(pen: Pen<W>, octets: usize, asked: Asked) -> Pen<W>
     requires { (2048 ≤ octets) × (octets ≤ 8192) }
 {
     let Asked::Place { place, why } = asked else {
@@ -47,7 +48,7 @@ pub fn marked(pen: Pen, octets: usize, asked: Asked) -> Pen
 }
 
 // the frame that holds the place, outlined where it is drawn
-pub fn outlined(pen: Pen, r: Reading, asked: Asked) -> Pen
+pub fn outlined<W: Write + Drop>(pen: Pen<W>, r: Reading, asked: Asked) -> Pen<W>
     requires { r.used ≤ 16 }
 {
     let Asked::Place { place, why: _ } = asked else {

@@ -3,6 +3,7 @@ ghost use Rattle.std.specs.Prelude.{◌<◌};
 
 use exchange::State;
 use pen::Pen;
+use std::io::{Result, Write};
 
 // what output j takes, as a host reads it
 fn entry(state: State, j: usize) -> usize
@@ -13,7 +14,7 @@ fn entry(state: State, j: usize) -> usize
 }
 
 // what is the same in every map
-fn grid(pen: Pen) -> Pen {
+fn grid<W: Write + Drop>(pen: Pen<W>) -> Pen<W> {
     pen.text(
         b"<style>
 .axis{font-weight:bold}.top{text-anchor:middle}.side{text-anchor:end}
@@ -41,7 +42,7 @@ path{fill:none;stroke:#ccd4da}circle,.idle rect{fill:#fff;stroke:#8a96a1}.moved0
 }
 
 // output j, which takes i: from the side to the crossing and up, drawn thick where the slot is moved
-fn takes(pen: Pen, j: usize, i: usize) -> Pen
+fn takes<W: Write + Drop>(pen: Pen<W>, j: usize, i: usize) -> Pen<W>
     requires { (j < 32) × (i < 256) }
 {
     let x = 20 * i;
@@ -54,7 +55,7 @@ fn takes(pen: Pen, j: usize, i: usize) -> Pen
 }
 
 // output j, which takes none
-fn idle(pen: Pen, j: usize) -> Pen
+fn idle<W: Write + Drop>(pen: Pen<W>, j: usize) -> Pen<W>
     requires { (0 < j) × (j < 32) }
 {
     let y = 20 * j;
@@ -65,7 +66,7 @@ fn idle(pen: Pen, j: usize) -> Pen
     )
 }
 
-fn outputs(pen: Pen, state: State) -> Pen {
+fn outputs<W: Write + Drop>(pen: Pen<W>, state: State) -> Pen<W> {
     let mut pen = pen;
     for j in 1..32 {
         let i = entry(state, j);
@@ -78,8 +79,8 @@ fn outputs(pen: Pen, state: State) -> Pen {
     pen
 }
 
-// The live map. Answers whether all was written.
-pub fn map(fd: i32, state: State) -> bool {
-    let pen = grid(Pen::new(fd).page(800, 800));
+// The live map. Answers whether all was written, or why not.
+pub fn map<W: Write + Drop>(to: W, state: State) -> Result<()> {
+    let pen = grid(Pen::new(to).page(800, 800));
     outputs(pen, state).text(b"</g>\n</svg>\n").written
 }

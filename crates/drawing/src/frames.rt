@@ -2,6 +2,7 @@
 ghost use Rattle.std.specs.Prelude.{◌≡◌, ◌<◌, length};
 
 use pen::Pen;
+use std::io::Write;
 
 // the bits of frame f's slot 0
 fn bits(slot0: &[u8; 256], f: usize) -> [usize; 8]
@@ -24,7 +25,7 @@ fn middle_of_word(wrong: usize) -> usize {
 }
 
 // an even frame: the check bit and the alignment word, where it is wrong with a cross and the number of its wrong bits
-fn even(pen: Pen, bits: &[usize], wrong: usize) -> Pen
+fn even<W: Write + Drop>(pen: Pen<W>, bits: &[usize], wrong: usize) -> Pen<W>
     requires { length bits.now ≡ 8 }
 {
     let pen = pen.fill(
@@ -37,7 +38,7 @@ fn even(pen: Pen, bits: &[usize], wrong: usize) -> Pen
 }
 
 // bit 1 of an odd frame below 12 of its multiframe: the signal 001011, with a cross where it is wrong
-fn signal(pen: Pen, n: usize, bit: usize) -> Pen {
+fn signal<W: Write + Drop>(pen: Pen<W>, n: usize, bit: usize) -> Pen<W> {
     let is_one = (n == 5) | ((n == 9) | (n == 11));
     let is_right = (bit == 1) == is_one;
     pen.fill(
@@ -48,7 +49,7 @@ fn signal(pen: Pen, n: usize, bit: usize) -> Pen {
 }
 
 // bit 1 of frame 13 or 15: E
-fn far(pen: Pen, bit: usize) -> Pen {
+fn far<W: Write + Drop>(pen: Pen<W>, bit: usize) -> Pen<W> {
     pen.fill(
         b"<g class='cell bits e%'><rect width='24' height='24'/><text x='12' y='16'>E%</text></g>",
         &[bit, bit],
@@ -56,7 +57,7 @@ fn far(pen: Pen, bit: usize) -> Pen {
 }
 
 // bits 2 to 8 of an odd frame: 1, A, Sa4 to Sa8
-fn overhead(pen: Pen, bits: &[usize]) -> Pen
+fn overhead<W: Write + Drop>(pen: Pen<W>, bits: &[usize]) -> Pen<W>
     requires { length bits.now ≡ 8 }
 {
     let pen = pen.fill(
@@ -67,7 +68,7 @@ fn overhead(pen: Pen, bits: &[usize]) -> Pen
 }
 
 // a wrong bit 2, in a cell with a cross that covers it and leaves A as it shows
-fn bit2(pen: Pen, bit: usize) -> Pen {
+fn bit2<W: Write + Drop>(pen: Pen<W>, bit: usize) -> Pen<W> {
     if bit == 1 {
         return pen;
     }
@@ -76,7 +77,7 @@ fn bit2(pen: Pen, bit: usize) -> Pen {
     )
 }
 
-fn odd(pen: Pen, bits: &[usize], n: usize) -> Pen
+fn odd<W: Write + Drop>(pen: Pen<W>, bits: &[usize], n: usize) -> Pen<W>
     requires { length bits.now ≡ 8 }
 {
     let pen = if n < 12 {
@@ -88,7 +89,7 @@ fn odd(pen: Pen, bits: &[usize], n: usize) -> Pen
 }
 
 // frame f of the line, in its place among the sixteen of its multiframe; its number shows under a pointer
-pub fn frame(pen: Pen, slot0: &[u8; 256], f: usize) -> Pen
+pub fn frame<W: Write + Drop>(pen: Pen<W>, slot0: &[u8; 256], f: usize) -> Pen<W>
     requires { f < 256 }
 {
     let n = f % 16;

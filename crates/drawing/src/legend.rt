@@ -1,7 +1,8 @@
 // What is the same in every picture of a line: its style, the heads of the columns, and what each cell means.
 use pen::Pen;
+use std::io::Write;
 
-pub fn style(pen: Pen) -> Pen {
+pub fn style<W: Write + Drop>(pen: Pen<W>) -> Pen<W> {
     pen.text(
         b"<style>
 .name{font-weight:bold}.note{font-size:11px;fill:#55626d}.value{font-size:20px}.rest{fill:#d9dde0}
@@ -21,7 +22,7 @@ path{stroke:#1f2a33;stroke-width:1.4}.label{stroke:#fff;stroke-width:3;paint-ord
 }
 
 // the heads stand over the rows, and what each cell means from y on
-pub fn legend(pen: Pen, y: usize) -> Pen {
+pub fn legend<W: Write + Drop>(pen: Pen<W>, y: usize) -> Pen<W> {
     pen.fill(
         b"<text x='24' y='310'><tspan class='name'>Slot 0, a block a row.</tspan> \
 A block's own check is carried in C1 to C4 of the next row.</text>

@@ -1,4 +1,4 @@
-// Pictures as SVG: a line, and the live map. Each answers whether all of it was written.
+// Pictures as SVG: a line, and the live map. Each answers whether all of it was written, or why not.
 #![tactic(auto)]
 
 mod asked;
@@ -18,6 +18,7 @@ pub use crossing::map;
 use pen::Pen;
 use read::Reading;
 use signals::Signalling;
+use std::io::{Result, Write};
 
 // how many multiframes are drawn: those that are used, and one in which alignment is lost, if it is
 fn drawn(r: Reading) -> usize
@@ -31,7 +32,13 @@ fn drawn(r: Reading) -> usize
 }
 
 // all but the multiframes
-fn page_of(pen: Pen, octets: usize, r: Reading, s: Signalling, asked: Asked) -> Pen
+fn page_of<W: Write + Drop>(
+    pen: Pen<W>,
+    octets: usize,
+    r: Reading,
+    s: Signalling,
+    asked: Asked,
+) -> Pen<W>
     requires { Shown octets r }
 {
     let below = 372 + 68 * drawn(r);
@@ -45,17 +52,17 @@ fn page_of(pen: Pen, octets: usize, r: Reading, s: Signalling, asked: Asked) -> 
 }
 
 // a line, with what `read` and `signals` read of it, and with a place that is asked about
-pub fn line(
-    fd: i32,
+pub fn line<W: Write + Drop>(
+    to: W,
     image: &[u8],
     r: Reading,
     slot0: &[u8; 256],
     s: Signalling,
     asked: Asked,
-) -> bool
+) -> Result<()>
     requires { Shown (length image.now) r }
 {
-    let pen = page_of(Pen::new(fd), image.len(), r, s, asked);
+    let pen = page_of(Pen::new(to), image.len(), r, s, asked);
     let pen = multiframes::multiframes(pen, image, slot0, r);
     let pen = asked::outlined(pen, r, asked);
     let pen = multiframes::loss(pen, r.used, r.lost, r.cause).text(b"</svg>\n");

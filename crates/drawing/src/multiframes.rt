@@ -6,9 +6,10 @@ ghost use Rattle.drawing.specs.Marks.{mark_of};
 use crate::frames;
 use pen::Pen;
 use read::Reading;
+use std::io::Write;
 
 // how a block compares
-#[derive(Drop)]
+#[derive(Clone, Copy)]
 enum Mark {
     Clean,
     Errored,
@@ -31,7 +32,7 @@ fn mark_of(image: &[u8], r: Reading, b: usize) -> Mark
 }
 
 // a mark at the end of the row at y
-fn print_mark(pen: Pen, mark: Mark, y: usize) -> Pen {
+fn print_mark<W: Write + Drop>(pen: Pen<W>, mark: Mark, y: usize) -> Pen<W> {
     let pen = pen.fill(b"<g transform='translate(804 %)'>", &[y]);
     match mark {
         Mark::Clean => pen.text(
@@ -47,7 +48,7 @@ fn print_mark(pen: Pen, mark: Mark, y: usize) -> Pen {
 }
 
 // opens multiframe m, with its number and those of its frames in front
-fn opened(pen: Pen, m: usize) -> Pen
+fn opened<W: Write + Drop>(pen: Pen<W>, m: usize) -> Pen<W>
     requires { m ≤ 16 }
 {
     pen.fill(
@@ -58,7 +59,13 @@ fn opened(pen: Pen, m: usize) -> Pen
 }
 
 // multiframe m, its frames as they stand in slot0
-fn multiframe(pen: Pen, image: &[u8], slot0: &[u8; 256], r: Reading, m: usize) -> Pen
+fn multiframe<W: Write + Drop>(
+    pen: Pen<W>,
+    image: &[u8],
+    slot0: &[u8; 256],
+    r: Reading,
+    m: usize,
+) -> Pen<W>
     requires { Shown (length image.now) r × (m < 16) }
 {
     let first = mark_of(image, r, 2 * m);
@@ -71,7 +78,12 @@ fn multiframe(pen: Pen, image: &[u8], slot0: &[u8; 256], r: Reading, m: usize) -
 }
 
 // those that are used
-pub fn multiframes(pen: Pen, image: &[u8], slot0: &[u8; 256], r: Reading) -> Pen
+pub fn multiframes<W: Write + Drop>(
+    pen: Pen<W>,
+    image: &[u8],
+    slot0: &[u8; 256],
+    r: Reading,
+) -> Pen<W>
     requires { Shown (length image.now) r }
 {
     let mut pen = pen;
@@ -82,7 +94,7 @@ pub fn multiframes(pen: Pen, image: &[u8], slot0: &[u8; 256], r: Reading) -> Pen
 }
 
 // what is wrong at the frame of the loss
-fn print_wrong(pen: Pen, cause: u64) -> Pen {
+fn print_wrong<W: Write + Drop>(pen: Pen<W>, cause: u64) -> Pen<W> {
     if cause == 1 {
         return pen.text(b"The word is wrong");
     }
@@ -90,7 +102,7 @@ fn print_wrong(pen: Pen, cause: u64) -> Pen {
 }
 
 // the multiframe behind them, where alignment is lost in it
-pub fn loss(pen: Pen, g: usize, lost: usize, cause: u64) -> Pen
+pub fn loss<W: Write + Drop>(pen: Pen<W>, g: usize, lost: usize, cause: u64) -> Pen<W>
     requires { g ≤ 16 }
 {
     if lost == 0 {

@@ -1,8 +1,9 @@
 // The report's numbers, a tile each.
 use pen::Pen;
 use read::Reading;
+use std::io::Write;
 
-fn tiles(pen: Pen) -> Pen {
+fn tiles<W: Write + Drop>(pen: Pen<W>) -> Pen<W> {
     pen.text(
         b"<g transform='translate(0 60)'><g fill='#f2f5f7'>
 <rect x='24' width='100.5' height='74'/><rect x='127.5' width='100.5' height='74'/>
@@ -27,7 +28,7 @@ fn tiles(pen: Pen) -> Pen {
 }
 
 // the frame of the loss, or no
-fn lost(pen: Pen, frame: usize) -> Pen {
+fn lost<W: Write + Drop>(pen: Pen<W>, frame: usize) -> Pen<W> {
     if frame == 0 {
         return pen.text(b"<tspan x='448'>no</tspan>\n");
     }
@@ -35,7 +36,7 @@ fn lost(pen: Pen, frame: usize) -> Pen {
 }
 
 // by which rule it is lost, if it is
-pub fn by_rule(pen: Pen, cause: u64) -> Pen {
+pub fn by_rule<W: Write + Drop>(pen: Pen<W>, cause: u64) -> Pen<W> {
     match cause {
         0 => pen,
         1 => pen.text(b", by words"),
@@ -43,7 +44,7 @@ pub fn by_rule(pen: Pen, cause: u64) -> Pen {
     }
 }
 
-pub fn report(pen: Pen, r: Reading) -> Pen {
+pub fn report<W: Write + Drop>(pen: Pen<W>, r: Reading) -> Pen<W> {
     let pen = tiles(pen).fill(
         b"<tspan x='34'>%</tspan><tspan x='137.5'>%</tspan><tspan x='241'>%</tspan><tspan x='344.5'>%</tspan>",
         &[r.place, r.start, r.whole, r.used],

@@ -7,6 +7,7 @@ use crate::asked::Asked;
 use crate::report::by_rule;
 use pen::Pen;
 use read::Reading;
+use std::io::Write;
 
 // how far along the bar a place of a line of so many octets stands
 pub fn along(octets: usize, place: usize) -> usize
@@ -17,7 +18,13 @@ pub fn along(octets: usize, place: usize) -> usize
 }
 
 // a multiframe of the bar
-fn multiframe(pen: Pen, x: usize, width: usize, m: usize, is_used: bool) -> Pen
+fn multiframe<W: Write + Drop>(
+    pen: Pen<W>,
+    x: usize,
+    width: usize,
+    m: usize,
+    is_used: bool,
+) -> Pen<W>
     requires { (x < 4294967296) × (width < 4294967296) }
 {
     pen.fill(
@@ -26,7 +33,7 @@ fn multiframe(pen: Pen, x: usize, width: usize, m: usize, is_used: bool) -> Pen
     )
 }
 
-fn multiframes(pen: Pen, octets: usize, r: Reading) -> Pen
+fn multiframes<W: Write + Drop>(pen: Pen<W>, octets: usize, r: Reading) -> Pen<W>
     requires { Shown octets r }
 {
     let start = r.start;
@@ -40,7 +47,7 @@ fn multiframes(pen: Pen, octets: usize, r: Reading) -> Pen
 }
 
 // opens words beside a mark at x along the bar, y below its top, on the side that has the room
-pub fn beside(pen: Pen, x: usize, y: usize) -> Pen {
+pub fn beside<W: Write + Drop>(pen: Pen<W>, x: usize, y: usize) -> Pen<W> {
     if x < 516 {
         return pen.fill(b"<text class='label' x='%' y='%' dx='4'>", &[x, y]);
     }
@@ -51,7 +58,7 @@ pub fn beside(pen: Pen, x: usize, y: usize) -> Pen {
 }
 
 // where alignment is lost, if it is, and by which rule
-fn loss(pen: Pen, octets: usize, r: Reading) -> Pen
+fn loss<W: Write + Drop>(pen: Pen<W>, octets: usize, r: Reading) -> Pen<W>
     requires { Shown octets r }
 {
     if r.lost == 0 {
@@ -63,7 +70,7 @@ fn loss(pen: Pen, octets: usize, r: Reading) -> Pen
 }
 
 // where alignment is found, and the first bit of a multiframe
-fn found(pen: Pen, octets: usize, r: Reading) -> Pen
+fn found<W: Write + Drop>(pen: Pen<W>, octets: usize, r: Reading) -> Pen<W>
     requires { Shown octets r }
 {
     let x = along(octets, r.place);
@@ -79,7 +86,7 @@ fn found(pen: Pen, octets: usize, r: Reading) -> Pen
 }
 
 // the marks that reach down furthest come first, so that the words of the others lie over them
-pub fn ruler(pen: Pen, octets: usize, r: Reading, a: Asked) -> Pen
+pub fn ruler<W: Write + Drop>(pen: Pen<W>, octets: usize, r: Reading, a: Asked) -> Pen<W>
     requires { Shown octets r }
 {
     let pen = pen.text(

@@ -4,9 +4,10 @@ ghost use Rattle.std.specs.Prelude.{◌≤◌};
 use crate::ruler::along;
 use pen::Pen;
 use signals::Signalling;
+use std::io::Write;
 
 // how many are read
-fn number_read(pen: Pen, n: usize) -> Pen {
+fn number_read<W: Write + Drop>(pen: Pen<W>, n: usize) -> Pen<W> {
     if n == 0 {
         return pen.text(b", none read");
     }
@@ -14,7 +15,7 @@ fn number_read(pen: Pen, n: usize) -> Pen {
 }
 
 // how many losses there are
-fn losses(pen: Pen, n: usize) -> Pen {
+fn losses<W: Write + Drop>(pen: Pen<W>, n: usize) -> Pen<W> {
     match n {
         0 => pen.text(b", no loss"),
         1 => pen.text(b", 1 loss"),
@@ -23,7 +24,7 @@ fn losses(pen: Pen, n: usize) -> Pen {
 }
 
 // what is said of all of them
-fn said(pen: Pen, s: Signalling) -> Pen {
+fn said<W: Write + Drop>(pen: Pen<W>, s: Signalling) -> Pen<W> {
     if s.first == 0 {
         return pen.text(b"no signalling alignment");
     }
@@ -36,7 +37,7 @@ fn said(pen: Pen, s: Signalling) -> Pen {
 }
 
 // the one that begins with frame f, by how many times 2 ms come before it; no line has more than 256 frames
-fn multiframe(pen: Pen, octets: usize, start: usize, f: usize) -> Pen
+fn multiframe<W: Write + Drop>(pen: Pen<W>, octets: usize, start: usize, f: usize) -> Pen<W>
     requires { (2048 ≤ octets) × (octets ≤ 8192) × (start ≤ 65536) }
 {
     if 256 <= f {
@@ -51,7 +52,7 @@ fn multiframe(pen: Pen, octets: usize, start: usize, f: usize) -> Pen
     )
 }
 
-fn multiframes(pen: Pen, octets: usize, start: usize, s: Signalling) -> Pen
+fn multiframes<W: Write + Drop>(pen: Pen<W>, octets: usize, start: usize, s: Signalling) -> Pen<W>
     requires { (2048 ≤ octets) × (octets ≤ 8192) × (start ≤ 65536) }
 {
     let starts = s.starts;
@@ -64,7 +65,7 @@ fn multiframes(pen: Pen, octets: usize, start: usize, s: Signalling) -> Pen
     pen
 }
 
-pub fn slot16(pen: Pen, octets: usize, start: usize, s: Signalling) -> Pen
+pub fn slot16<W: Write + Drop>(pen: Pen<W>, octets: usize, start: usize, s: Signalling) -> Pen<W>
     requires { (2048 ≤ octets) × (octets ≤ 8192) × (start ≤ 65536) }
 {
     let pen = said(

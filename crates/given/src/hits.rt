@@ -12,7 +12,7 @@ fn next(x: u64) -> u64
 }
 
 // a payload that begins with random octets, and the number behind them
-#[derive(Drop)]
+#[derive(Clone, Copy)]
 pub struct Drawn {
     pub payload: [u8; 8432],
     pub number: u64,

@@ -91,7 +91,7 @@ pub const UNKNOWN: usize = 39;
 
 // A payload, an overhead, XY and ABCD, of one multiframe more than a call takes; bits for T1's data link and signalling,
 // of one superframe more; an image; which of its octets are read, and into how much room.
-#[derive(Drop)]
+#[derive(Clone, Copy)]
 pub struct Bench {
     pub payload: [u8; 8432],
     pub overhead: [u8; 136],

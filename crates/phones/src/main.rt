@@ -4,10 +4,9 @@
 
 ghost use Rattle.std.specs.Prelude.{◌<◌};
 
-use libc::STDOUT_FILENO;
 use printed::{Change, print_bits, print_change, print_values};
 use program::text::{limited, write_line};
-use program::{print, print_line, print_number};
+use program::{Printed, print, print_line, print_number};
 use signals::Signalling;
 
 // the numbers of the channels, ten to a row
@@ -31,79 +30,82 @@ fn heard(abcd: &[u8; 450], m: usize, c: usize) -> Change
     }
 }
 
-fn print_changes(abcd: &[u8; 450], m: usize, f: usize) -> bool
+fn print_changes(rt: &impl Print, abcd: &[u8; 450], m: usize, f: usize) -> Printed
     requires { m < 15 }
 {
-    let mut ok = true;
+    let mut ok = Ok(());
     for c in 0..30 {
-        ok = ok & print_change(f, c + 1, heard(abcd, m, c));
+        ok = ok.and(print_change(rt, f, c + 1, heard(abcd, m, c)));
     }
     ok
 }
 
 // the bits of a channel in a column of six, a star before them where they change
-fn print_cell(h: Change) -> bool {
+fn print_cell(rt: &impl Print, h: Change) -> Printed {
     if h.was == h.is {
-        return print_bits(b"  ", h.is);
+        return print_bits(rt, b"  ", h.is);
     }
-    print_bits(b" *", h.is)
+    print_bits(rt, b" *", h.is)
 }
 
 // ten channels, the k-th ten from 0: their numbers, and their bits below
-fn print_ten(abcd: &[u8; 450], m: usize, k: usize) -> bool
+fn print_ten(rt: &impl Print, abcd: &[u8; 450], m: usize, k: usize) -> Printed
     requires { (m < 15) × (k < 3) }
 {
-    let mut ok = write_line(STDOUT_FILENO, &HEADS, k as u64) & print(b"\nABCD   ");
+    let mut ok = write_line(rt, &HEADS, k as u64).and(print(rt, b"\nABCD   "));
     for c in 10 * k..10 * k + 10 {
-        ok = ok & print_cell(heard(abcd, m, c));
+        ok = ok.and(print_cell(rt, heard(abcd, m, c)));
     }
-    ok & print(b"\n")
+    ok.and(print(rt, b"\n"))
 }
 
-fn print_channels(abcd: &[u8; 450], m: usize, f: usize) -> bool
+fn print_channels(rt: &impl Print, abcd: &[u8; 450], m: usize, f: usize) -> Printed
     requires { m < 15 }
 {
-    print_number(b"2 ms ", (f / 16) as u64)
-        & print_line(b"  frame ", f)
-        & print_ten(abcd, m, 0)
-        & print_ten(abcd, m, 1)
-        & print_ten(abcd, m, 2)
-        & print(b"\n")
+    print_number(rt, b"2 ms ", (f / 16) as u64)
+        .and(print_line(rt, b"  frame ", f))
+        .and(print_ten(rt, abcd, m, 0))
+        .and(print_ten(rt, abcd, m, 1))
+        .and(print_ten(rt, abcd, m, 2))
+        .and(print(rt, b"\n"))
 }
 
 // the signalling multiframes that are read, no more than 15
-fn print_abcd(abcd: &[u8; 450], s: Signalling, is_table: bool) -> bool {
+fn print_abcd(rt: &impl Print, abcd: &[u8; 450], s: Signalling, is_table: bool) -> Printed {
     let starts = s.starts;
-    let mut ok = true;
+    let mut ok = Ok(());
     for m in 0..limited(s.multiframes as u64, 15) {
         if is_table {
-            ok = ok & print_channels(abcd, m, starts[m]);
+            ok = ok.and(print_channels(rt, abcd, m, starts[m]));
         } else {
-            ok = ok & print_changes(abcd, m, starts[m]);
+            ok = ok.and(print_changes(rt, abcd, m, starts[m]));
         }
     }
     ok
 }
 
 // what the telephones say, or the refusal: its number is printed, and said in words on standard error
-fn phones(image: &[u8], is_table: bool) {
+fn phones(rt: &impl Print, image: &[u8], is_table: bool) {
     let mut abcd = [0u8; 450];
     let s = signals::signals(image, &mut abcd);
     if s.number == 0 {
-        program::written(b"phones", print_abcd(&abcd, s, is_table) & print_values(s));
+        program::written(
+            b"phones",
+            print_abcd(rt, &abcd, s, is_table).and(print_values(rt, s)),
+        );
         return;
     }
-    program::answer_refused(b"phones", s.number);
+    program::answer_refused(rt, b"phones", s.number);
 }
 
 // No line over 8,192 octets is read, so one octet more is enough to know that it is longer.
-fn main() {
-    let is_table = program::is_first(b"--table");
+fn main(rt: HostRuntime) {
+    let is_table = program::is_first(&rt, b"--table");
     let at = if is_table { 2 } else { 1 };
     let mut image = [0u8; 8193];
-    let taken = program::read(b"phones", at, &mut image);
+    let taken = program::read(&rt, b"phones", at, &mut image);
     if taken.ok {
         let n = taken.n;
-        phones(&image[..n], is_table);
+        phones(&rt, &image[..n], is_table);
     }
 }

@@ -4,11 +4,11 @@
 
 use align::Why;
 use drawing::Asked;
-use libc::STDOUT_FILENO;
 use program::text::Spelt;
+use std::io::writer;
 
 // the picture, or, on standard error, why there is none
-fn picture(image: &[u8], asked: Asked) {
+fn picture(rt: &impl Print, image: &[u8], asked: Asked) {
     let mut payload = [0u8; 7936];
     let mut slot0 = [0u8; 256];
     let r = read::read(image, &mut payload, &mut slot0);
@@ -21,18 +21,19 @@ fn picture(image: &[u8], asked: Asked) {
     let s = signals::signals(image, &mut abcd);
     program::written(
         b"picture",
-        drawing::line(STDOUT_FILENO, image, r, &slot0, s, asked),
+        drawing::line(writer(rt), image, r, &slot0, s, asked),
     );
 }
 
 // the same with a place marked
-fn marked(image: &[u8], place: u64) {
+fn marked(rt: &impl Print, image: &[u8], place: u64) {
     let why = align::ask::why(image, place);
     if let Why::Refused { number } = why {
         program::refused(b"picture", number);
         return;
     }
     picture(
+        rt,
         image,
         Asked::Place {
             place: place as usize,
@@ -42,22 +43,22 @@ fn marked(image: &[u8], place: u64) {
 }
 
 // No line over 8,192 octets is read, so one octet more is enough to know that it is longer.
-fn main() {
+fn main(rt: HostRuntime) {
     let mut image = [0u8; 8193];
-    if program::is_first(b"--why") {
-        let Spelt::Number(place) = program::place(b"picture", 2) else {
+    if program::is_first(&rt, b"--why") {
+        let Spelt::Number(place) = program::place(&rt, b"picture", 2) else {
             return;
         };
-        let taken = program::read(b"picture", 3, &mut image);
+        let taken = program::read(&rt, b"picture", 3, &mut image);
         if taken.ok {
             let n = taken.n;
-            marked(&image[..n], place);
+            marked(&rt, &image[..n], place);
         }
         return;
     }
-    let taken = program::read(b"picture", 1, &mut image);
+    let taken = program::read(&rt, b"picture", 1, &mut image);
     if taken.ok {
         let n = taken.n;
-        picture(&image[..n], Asked::Nothing);
+        picture(&rt, &image[..n], Asked::Nothing);
     }
 }

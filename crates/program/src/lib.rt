@@ -10,7 +10,7 @@ ghost use Rattle.io.specs.Counts.{IsPrefixLen};
 
 use reason::print_reason;
 use std::env::FillError;
-use std::io::{Error, Read};
+use std::io::{Error, IsTerminal, Read};
 use std::rt::{Env, Files};
 use std::{fs, str};
 use text::{Spelt, numbers};
@@ -295,6 +295,13 @@ pub fn read_once<S: Read, F: Read>(source: &mut Source<S, F>, room: &mut [u8]) -
     match read {
         Ok(n) => Got { n: n, ok: Ok(()) },
         Err(why) => Got { n: 0, ok: Err(why) },
+    }
+}
+
+pub fn is_terminal<S: IsTerminal, F: IsTerminal>(source: &Source<S, F>) -> bool {
+    match source {
+        Source::Standard(input) => input.is_terminal(),
+        Source::File(file) => file.is_terminal(),
     }
 }
 

@@ -3,30 +3,30 @@
 #![tactic(auto)]
 
 use align::Why;
-use libc::STDOUT_FILENO;
 use pen::Pen;
 use program::text::Spelt;
+use std::io::writer;
 
 // what is said of the place, or the refusal: its number is printed, and said in words on standard error
-fn why(image: &[u8], place: u64) {
+fn why(rt: &impl Print, image: &[u8], place: u64) {
     let w = align::ask::why(image, place);
     if let Why::Refused { number } = w {
-        program::answer_refused(b"why", number);
+        program::answer_refused(rt, b"why", number);
         return;
     }
-    let pen = drawing::said(Pen::new(STDOUT_FILENO), w).text(b"\n");
+    let pen = drawing::said(Pen::new(writer(rt)), w).text(b"\n");
     program::written(b"why", pen.written);
 }
 
 // No line over 8,192 octets is taken, so one octet more is enough to know that it is longer.
-fn main() {
-    let Spelt::Number(place) = program::place(b"why", 1) else {
+fn main(rt: HostRuntime) {
+    let Spelt::Number(place) = program::place(&rt, b"why", 1) else {
         return;
     };
     let mut image = [0u8; 8193];
-    let taken = program::read(b"why", 2, &mut image);
+    let taken = program::read(&rt, b"why", 2, &mut image);
     if taken.ok {
         let n = taken.n;
-        why(&image[..n], place);
+        why(&rt, &image[..n], place);
     }
 }
