@@ -3,13 +3,11 @@ ghost use Rattle.std.specs.Prelude.{◌≡◌, length};
 
 use crate::chunks::STREAM;
 use crate::hits::T1_TWO_HITS;
-use crate::print::digest;
+use crate::print::{digest, print, print_number};
 use align::Why;
 use exchange::State;
 use given::{Bench, ROOM, low};
-use libc::STDOUT_FILENO;
-use program::text::{limited, write_line};
-use program::{print, print_number};
+use program::text::{limited, line_at};
 use signals::Signalling;
 
 // The steps that call, by their lines in `given::STEPS`.
@@ -43,7 +41,7 @@ const NAMES: [u8; 95] =
     *b" place \n start \n whole \n used \n lost \n words \n compared \n errored \n farend \n wordbits \n cause \n";
 
 // what a read answers behind its number
-pub fn show_values(r: read::Reading) {
+pub fn show_values(rt: &impl Print, r: read::Reading) {
     let counts = [
         r.place,
         r.start,
@@ -58,27 +56,27 @@ pub fn show_values(r: read::Reading) {
         r.cause as usize,
     ];
     for i in 0..11 {
-        write_line(STDOUT_FILENO, &NAMES, i as u64);
-        print_number(b"", counts[i] as u64);
+        print(rt, line_at(&NAMES, i as u64));
+        print_number(rt, b"", counts[i] as u64);
     }
 }
 
 // what a read answers, and the digests of its outputs
-fn show_read(label: &[u8], r: read::Reading, payload: &[u8], slot0: &[u8]) {
-    print(label);
-    print_number(b": ", r.number);
-    show_values(r);
-    digest(b" payload ", payload);
-    digest(b" slot0 ", slot0);
-    print(b"\n");
+fn show_read(rt: &impl Print, label: &[u8], r: read::Reading, payload: &[u8], slot0: &[u8]) {
+    print(rt, label);
+    print_number(rt, b": ", r.number);
+    show_values(rt, r);
+    digest(rt, b" payload ", payload);
+    digest(rt, b" slot0 ", slot0);
+    print(rt, b"\n");
 }
 
-fn read_into(label: &[u8], image: &[u8], payload: &mut [u8], slot0: &mut [u8]) {
+fn read_into(rt: &impl Print, label: &[u8], image: &[u8], payload: &mut [u8], slot0: &mut [u8]) {
     let r = read::read(image, payload, slot0);
-    show_read(label, r, payload, slot0);
+    show_read(rt, label, r, payload, slot0);
 }
 
-fn read(label: &[u8], image: [u8; 8193], bench: Bench) {
+fn read(rt: &impl Print, label: &[u8], image: [u8; 8193], bench: Bench) {
     let to = limited(bench.to, 8193);
     let from = limited(bench.from, to);
     let p = limited(bench.payload_room, 7936);
@@ -86,6 +84,7 @@ fn read(label: &[u8], image: [u8; 8193], bench: Bench) {
     let mut payload = [BEFORE; 7936];
     let mut slot0 = [BEFORE; 256];
     read_into(
+        rt,
         label,
         &image[from..to],
         &mut payload[0..p],
@@ -94,83 +93,91 @@ fn read(label: &[u8], image: [u8; 8193], bench: Bench) {
 }
 
 // what is said of a place
-fn show_why(label: &[u8], number: u64, condition: u64, k: usize, bit: usize) {
-    print(label);
-    print_number(b": ", number);
-    print_number(b" condition ", condition);
-    print_number(b" k ", k as u64);
-    print_number(b" bit ", bit as u64);
-    print(b"\n");
+fn show_why(rt: &impl Print, label: &[u8], number: u64, condition: u64, k: usize, bit: usize) {
+    print(rt, label);
+    print_number(rt, b": ", number);
+    print_number(rt, b" condition ", condition);
+    print_number(rt, b" k ", k as u64);
+    print_number(rt, b" bit ", bit as u64);
+    print(rt, b"\n");
 }
 
-fn why_in(label: &[u8], image: &[u8], place: u64) {
+fn why_in(rt: &impl Print, label: &[u8], image: &[u8], place: u64) {
     match align::ask::why(image, place) {
-        Why::NoneFails { k } => show_why(label, 0, 0, k, 0),
-        Why::FirstWord { bit } => show_why(label, 0, 1, 0, bit),
-        Why::Bit2 => show_why(label, 0, 2, 0, 0),
-        Why::SecondWord { bit } => show_why(label, 0, 3, 0, bit),
-        Why::NoPair => show_why(label, 0, 4, 0, 0),
-        Why::Refused { number } => show_why(label, number, 0, 0, 0),
+        Why::NoneFails { k } => show_why(rt, label, 0, 0, k, 0),
+        Why::FirstWord { bit } => show_why(rt, label, 0, 1, 0, bit),
+        Why::Bit2 => show_why(rt, label, 0, 2, 0, 0),
+        Why::SecondWord { bit } => show_why(rt, label, 0, 3, 0, bit),
+        Why::NoPair => show_why(rt, label, 0, 4, 0, 0),
+        Why::Refused { number } => show_why(rt, label, number, 0, 0, 0),
     }
 }
 
-fn why(label: &[u8], image: [u8; 8193], bench: Bench, place: u64) {
+fn why(rt: &impl Print, label: &[u8], image: [u8; 8193], bench: Bench, place: u64) {
     let to = limited(bench.to, 8193);
     let from = limited(bench.from, to);
-    why_in(label, &image[from..to], place);
+    why_in(rt, label, &image[from..to], place);
 }
 
 // what a reading of signalling answers, and the digest of its output
-fn show_signals(label: &[u8], s: Signalling, abcd: &[u8]) {
-    print(label);
-    print_number(b": ", s.number);
-    print_number(b" multiframes ", s.multiframes as u64);
-    print_number(b" first ", s.first as u64);
-    print_number(b" losses ", s.losses as u64);
-    print_number(b" held ", s.held as u64);
-    print_number(b" x0 ", s.x0 as u64);
-    print_number(b" x1 ", s.x1 as u64);
-    print_number(b" x2 ", s.x2 as u64);
-    print_number(b" y ", s.y as u64);
-    digest(b" abcd ", abcd);
-    print(b"\n");
+fn show_signals(rt: &impl Print, label: &[u8], s: Signalling, abcd: &[u8]) {
+    print(rt, label);
+    print_number(rt, b": ", s.number);
+    print_number(rt, b" multiframes ", s.multiframes as u64);
+    print_number(rt, b" first ", s.first as u64);
+    print_number(rt, b" losses ", s.losses as u64);
+    print_number(rt, b" held ", s.held as u64);
+    print_number(rt, b" x0 ", s.x0 as u64);
+    print_number(rt, b" x1 ", s.x1 as u64);
+    print_number(rt, b" x2 ", s.x2 as u64);
+    print_number(rt, b" y ", s.y as u64);
+    digest(rt, b" abcd ", abcd);
+    print(rt, b"\n");
 }
 
-fn signals_into(label: &[u8], image: &[u8], abcd: &mut [u8]) {
+fn signals_into(rt: &impl Print, label: &[u8], image: &[u8], abcd: &mut [u8]) {
     let s = signals::signals(image, abcd);
-    show_signals(label, s, abcd);
+    show_signals(rt, label, s, abcd);
 }
 
 // an output of so many octets
-fn signals(label: &[u8], image: [u8; 8193], bench: Bench, room: u64) {
+fn signals(rt: &impl Print, label: &[u8], image: [u8; 8193], bench: Bench, room: u64) {
     let to = limited(bench.to, 8193);
     let from = limited(bench.from, to);
     let r = limited(room, 512);
     let mut abcd = [BEFORE; 512];
-    signals_into(label, &image[from..to], &mut abcd[0..r]);
+    signals_into(rt, label, &image[from..to], &mut abcd[0..r]);
 }
 
 // what a write answers, and the digest of its output
-pub fn show_write(label: &[u8], number: u64, check: u64, out: &[u8]) {
-    print(label);
-    print_number(b": ", number);
-    print_number(b" check ", check);
-    digest(b" out ", out);
-    print(b"\n");
+pub fn show_write(rt: &impl Print, label: &[u8], number: u64, check: u64, out: &[u8]) {
+    print(rt, label);
+    print_number(rt, b": ", number);
+    print_number(rt, b" check ", check);
+    digest(rt, b" out ", out);
+    print(rt, b"\n");
 }
 
-fn write_into(label: &[u8], payload: &[u8], overhead: &[u8], check: u64, out: &mut [u8]) {
+fn write_into(
+    rt: &impl Print,
+    label: &[u8],
+    payload: &[u8],
+    overhead: &[u8],
+    check: u64,
+    out: &mut [u8],
+) {
     let w = write::write(payload, overhead, check, out);
-    show_write(label, w.number, w.check, out);
+    show_write(rt, label, w.number, w.check, out);
 }
 
 // so many octets of a payload and of an overhead, a check, and an output of so many octets
-fn write(label: &[u8], payload: [u8; 8432], overhead: [u8; 136], row: &[u64; 8]) {
+fn write(rt: &impl Print, label: &[u8], payload: [u8; 8432], overhead: [u8; 136], row: &[u64; 8]) {
     let p = limited(row[0], 8432);
     let h = limited(row[1], 136);
     let e = limited(row[3], 8704);
     let mut out = [BEFORE; 8704];
     write_into(
+        rt,
         label,
         &payload[0..p],
         &overhead[0..h],
@@ -180,6 +187,7 @@ fn write(label: &[u8], payload: [u8; 8432], overhead: [u8; 136], row: &[u64; 8])
 }
 
 fn write_signalled_into(
+    rt: &impl Print,
     label: &[u8],
     payload: &[u8],
     overhead: &[u8],
@@ -189,11 +197,12 @@ fn write_signalled_into(
     out: &mut [u8],
 ) {
     let w = signalled::write_signalled(payload, overhead, check, xy, abcd, out);
-    show_write(label, w.number, w.check, out);
+    show_write(rt, label, w.number, w.check, out);
 }
 
 // so many octets of a payload and of an overhead, a check, so many octets of XY and of ABCD, and an output of so many
 fn write_signalled(
+    rt: &impl Print,
     label: &[u8],
     payload: [u8; 8432],
     overhead: [u8; 136],
@@ -208,6 +217,7 @@ fn write_signalled(
     let e = limited(row[5], 8704);
     let mut out = [BEFORE; 8704];
     write_signalled_into(
+        rt,
         label,
         &payload[0..p],
         &overhead[0..h],
@@ -219,7 +229,7 @@ fn write_signalled(
 }
 
 // two multiframes in two writes, the second with the check of the first
-fn write_two(label: &[u8], payload: &[u8], overhead: &[u8], out: &mut [u8])
+fn write_two(rt: &impl Print, label: &[u8], payload: &[u8], overhead: &[u8], out: &mut [u8])
     requires { (length payload.now ≡ 992) × (length overhead.now ≡ 16) × (length out.old ≡ 1024) }
 {
     let a = write::write(&payload[0..496], &overhead[0..8], 5, &mut out[0..512]);
@@ -229,23 +239,30 @@ fn write_two(label: &[u8], payload: &[u8], overhead: &[u8], out: &mut [u8])
         a.check,
         &mut out[512..1024],
     );
-    show_write(label, b.number, b.check, out);
+    show_write(rt, label, b.number, b.check, out);
 }
 
-fn row_of_two(label: &[u8], payload: [u8; 8432], overhead: [u8; 136]) {
+fn row_of_two(rt: &impl Print, label: &[u8], payload: [u8; 8432], overhead: [u8; 136]) {
     let mut out = [BEFORE; 1024];
-    write_two(label, &payload[0..992], &overhead[0..16], &mut out);
+    write_two(rt, label, &payload[0..992], &overhead[0..16], &mut out);
 }
 
 // a call of the map and the key or on a stream, as its step says it, and its number
-pub fn head(label: &[u8], step: &[u8], number: u64) {
-    print(label);
-    print(step);
-    print_number(b": ", number);
+pub fn head(rt: &impl Print, label: &[u8], step: &[u8], number: u64) {
+    print(rt, label);
+    print(rt, step);
+    print_number(rt, b": ", number);
 }
 
 // a record of up to five octets
-fn host(label: &[u8], step: &[u8], state: State, row: &[u64; 8], n: usize) -> State {
+fn host(
+    rt: &impl Print,
+    label: &[u8],
+    step: &[u8],
+    state: State,
+    row: &[u64; 8],
+    n: usize,
+) -> State {
     let octets = [
         low(row[0]),
         low(row[1]),
@@ -255,36 +272,51 @@ fn host(label: &[u8], step: &[u8], state: State, row: &[u64; 8], n: usize) -> St
     ];
     let e = limited(n as u64, 5);
     let a = exchange::host(state, &octets[0..e]);
-    head(label, step, a.number);
-    print_number(b" entry ", a.entry as u64);
-    print(b"\n");
+    head(rt, label, step, a.number);
+    print_number(rt, b" entry ", a.entry as u64);
+    print(rt, b"\n");
     a.state
 }
 
 // a call that answers nothing but its number
-fn tell(label: &[u8], step: &[u8], a: exchange::Answered) -> State {
-    head(label, step, a.number);
-    print(b"\n");
+fn tell(rt: &impl Print, label: &[u8], step: &[u8], a: exchange::Answered) -> State {
+    head(rt, label, step, a.number);
+    print(rt, b"\n");
     a.state
 }
 
-fn map_into(label: &[u8], step: &[u8], state: State, payload: &[u8], out: &mut [u8]) {
+fn map_into(
+    rt: &impl Print,
+    label: &[u8],
+    step: &[u8],
+    state: State,
+    payload: &[u8],
+    out: &mut [u8],
+) {
     let number = exchange::map_payload(state, payload, out);
-    head(label, step, number);
-    digest(b" out ", out);
-    print(b"\n");
+    head(rt, label, step, number);
+    digest(rt, b" out ", out);
+    print(rt, b"\n");
 }
 
 // so many octets of a payload, into an output of so many
-fn map(label: &[u8], step: &[u8], state: State, payload: [u8; 8432], row: &[u64; 8]) {
+fn map(
+    rt: &impl Print,
+    label: &[u8],
+    step: &[u8],
+    state: State,
+    payload: [u8; 8432],
+    row: &[u64; 8],
+) {
     let p = limited(row[0], 8432);
     let e = limited(row[1], 8432);
     let mut out = [BEFORE; 8432];
-    map_into(label, step, state, &payload[0..p], &mut out[0..e]);
+    map_into(rt, label, step, state, &payload[0..p], &mut out[0..e]);
 }
 
 // the state that a step leaves, by its line in the table and by the n numbers of a row
 pub fn call(
+    rt: &impl Print,
     label: &[u8],
     step: &[u8],
     bench: Bench,
@@ -301,42 +333,42 @@ pub fn call(
     match k {
         0..=ROOM | STREAM..=T1_TWO_HITS => state,
         READ => {
-            read(label, image, bench);
+            read(rt, label, image, bench);
             state
         }
         WRITE => {
-            write(label, payload, overhead, row);
+            write(rt, label, payload, overhead, row);
             state
         }
         ROW => {
-            row_of_two(label, payload, overhead);
+            row_of_two(rt, label, payload, overhead);
             state
         }
         START => exchange::start(),
-        HOST => host(label, step, state, row, n),
-        KEY => tell(label, step, exchange::key(state, row[0])),
-        BOUNDARY => tell(label, step, exchange::boundary(state)),
+        HOST => host(rt, label, step, state, row, n),
+        KEY => tell(rt, label, step, exchange::key(state, row[0])),
+        BOUNDARY => tell(rt, label, step, exchange::boundary(state)),
         MAP => {
-            map(label, step, state, payload, row);
+            map(rt, label, step, state, payload, row);
             state
         }
         WHY => {
-            why(label, image, bench, row[0]);
+            why(rt, label, image, bench, row[0]);
             state
         }
         SIGNALS => {
-            signals(label, image, bench, row[0]);
+            signals(rt, label, image, bench, row[0]);
             state
         }
         WRITE_SIGNALLED => {
-            write_signalled(label, payload, overhead, xy, abcd, row);
+            write_signalled(rt, label, payload, overhead, xy, abcd, row);
             state
         }
         _ => {
-            print(label);
-            print(b": not understood:");
-            print(step);
-            print(b"\n");
+            print(rt, label);
+            print(rt, b": not understood:");
+            print(rt, step);
+            print(rt, b"\n");
             state
         }
     }

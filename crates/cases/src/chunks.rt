@@ -1,9 +1,8 @@
 // The calls on a stream that steps make, each with the line that it prints.
 use crate::calls::{BEFORE, head, show_values};
-use crate::print::digest;
+use crate::print::{digest, print, print_number};
 use given::Bench;
 use program::text::limited;
-use program::{print, print_number};
 use stream::{Fed, Stream};
 
 // The steps that call, by their lines in `given::STEPS`.
@@ -16,6 +15,7 @@ const FEEDS: usize = 32;
 const END: usize = 33;
 
 fn feed_into(
+    rt: &impl Print,
     label: &[u8],
     step: &[u8],
     s: Stream,
@@ -25,16 +25,17 @@ fn feed_into(
     slot0: &mut [u8],
 ) -> Stream {
     let f = stream::feed(s, window, chunk, payload, slot0);
-    head(label, step, f.number);
-    print_number(b" multiframes ", f.multiframes as u64);
-    digest(b" payload ", payload);
-    digest(b" slot0 ", slot0);
-    print(b"\n");
+    head(rt, label, step, f.number);
+    print_number(rt, b" multiframes ", f.multiframes as u64);
+    digest(rt, b" payload ", payload);
+    digest(rt, b" slot0 ", slot0);
+    print(rt, b"\n");
     f.stream
 }
 
 // octets of the image
 fn feed(
+    rt: &impl Print,
     label: &[u8],
     step: &[u8],
     s: Stream,
@@ -50,6 +51,7 @@ fn feed(
     let mut payload = [BEFORE; 7936];
     let mut slot0 = [BEFORE; 256];
     feed_into(
+        rt,
         label,
         step,
         s,
@@ -69,6 +71,7 @@ fn feed_once(s: Stream, window: &mut [u8; 2048], chunk: &[u8]) -> Fed {
 
 // the same octets so many times: the last number, and how many multiframes left in all
 fn feeds(
+    rt: &impl Print,
     label: &[u8],
     step: &[u8],
     s: Stream,
@@ -88,22 +91,23 @@ fn feeds(
         number = f.number;
         left += limited(f.multiframes as u64, 20);
     }
-    head(label, step, number);
-    print_number(b" multiframes ", left as u64);
-    print(b"\n");
+    head(rt, label, step, number);
+    print_number(rt, b" multiframes ", left as u64);
+    print(rt, b"\n");
     s
 }
 
-fn end(label: &[u8], step: &[u8], s: Stream) -> Stream {
+fn end(rt: &impl Print, label: &[u8], step: &[u8], s: Stream) -> Stream {
     let e = stream::end(s);
-    head(label, step, e.reading.number);
-    show_values(e.reading);
-    print(b"\n");
+    head(rt, label, step, e.reading.number);
+    show_values(rt, e.reading);
+    print(rt, b"\n");
     e.stream
 }
 
 // the stream that a step leaves, by its line in the table and by the numbers of a row
 pub fn call(
+    rt: &impl Print,
     label: &[u8],
     step: &[u8],
     bench: Bench,
@@ -115,9 +119,9 @@ pub fn call(
     let image = bench.image;
     match k {
         STREAM => stream::start(),
-        FEED => feed(label, step, s, window, image, bench, row),
-        FEEDS => feeds(label, step, s, window, image, row),
-        END => end(label, step, s),
+        FEED => feed(rt, label, step, s, window, image, bench, row),
+        FEEDS => feeds(rt, label, step, s, window, image, row),
+        END => end(rt, label, step, s),
         _ => s,
     }
 }

@@ -2,8 +2,8 @@
 ghost use Rattle.std.specs.Prelude.{◌<◌};
 
 use crate::calls::BEFORE;
+use crate::print::print;
 use given::{Bench, hits};
-use program::print;
 use program::text::limited;
 
 // The steps, by their lines in `given::STEPS`.
@@ -65,29 +65,36 @@ fn t1_character(bits: [u8; 1440], m: usize) -> u8
 }
 
 // the distances from one to another
-fn show(label: &[u8], overhead: [u8; 136], bits: [u8; 1440], t1: bool, row: &[u64; 8]) {
+fn show(
+    rt: &impl Print,
+    label: &[u8],
+    overhead: [u8; 136],
+    bits: [u8; 1440],
+    t1: bool,
+    row: &[u64; 8],
+) {
     let to = limited(row[1], 2047);
     let from = limited(row[0], to);
-    print(label);
-    print(b": ");
+    print(rt, label);
+    print(rt, b": ");
     for m in from..to + 1 {
         let c = if t1 {
             t1_character(bits, m)
         } else {
             character(overhead, m)
         };
-        print(&[c]);
+        print(rt, &[c]);
     }
-    print(b"\n");
+    print(rt, b"\n");
 }
 
 // by a step's line in the table and by the numbers of a row
-pub fn call(label: &[u8], bench: Bench, k: usize, row: &[u64; 8]) {
+pub fn call(rt: &impl Print, label: &[u8], bench: Bench, k: usize, row: &[u64; 8]) {
     let overhead = bench.overhead;
     let bits = bench.bits;
     match k {
-        TWO_HITS => show(label, overhead, bits, false, row),
-        T1_TWO_HITS => show(label, overhead, bits, true, row),
+        TWO_HITS => show(rt, label, overhead, bits, false, row),
+        T1_TWO_HITS => show(rt, label, overhead, bits, true, row),
         _ => {}
     }
 }

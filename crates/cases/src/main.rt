@@ -49,6 +49,7 @@ struct Kept {
 
 // a step is a call on the state, on the stream, of T1, one of two hits, or none
 fn called(
+    rt: &impl Print,
     label: &[u8],
     words: &[u8],
     bench: Bench,
@@ -57,10 +58,10 @@ fn called(
     step: Step,
     row: &[u64; 8],
 ) -> Kept {
-    let state = calls::call(label, words, bench, kept.state, step.k, row, step.n);
-    let stream = chunks::call(label, words, bench, kept.stream, window, step.k, row);
-    superframes::call(label, bench, step.k, row);
-    hits::call(label, bench, step.k, row);
+    let state = calls::call(rt, label, words, bench, kept.state, step.k, row, step.n);
+    let stream = chunks::call(rt, label, words, bench, kept.stream, window, step.k, row);
+    superframes::call(rt, label, bench, step.k, row);
+    hits::call(rt, label, bench, step.k, row);
     Kept {
         state: state,
         stream: stream,
@@ -68,7 +69,7 @@ fn called(
 }
 
 // Each case has a bench of its own.
-fn case(line: &[u8], kept: Kept, window: &mut [u8; 2048]) -> Kept {
+fn case(rt: &impl Print, line: &[u8], kept: Kept, window: &mut [u8; 2048]) -> Kept {
     let c = text::until(line, 0, b':');
     let mut bench = given::new();
     let mut kept = kept;
@@ -80,13 +81,22 @@ fn case(line: &[u8], kept: Kept, window: &mut [u8; 2048]) -> Kept {
         let mut row = [0; 8];
         let step = parsed(&line[from..e], &mut row);
         bench = bench.made(step.k, &row, step.n);
-        kept = called(&line[0..c], &line[from..e], bench, kept, window, step, &row);
+        kept = called(
+            rt,
+            &line[0..c],
+            &line[from..e],
+            bench,
+            kept,
+            window,
+            step,
+            &row,
+        );
     }
     kept
 }
 
 // A line that is empty or begins with # is a remark: it has no steps.
-fn cases(s: &[u8]) {
+fn cases(rt: &impl Print, s: &[u8]) {
     let mut kept = Kept {
         state: exchange::start(),
         stream: stream::start(),
@@ -96,17 +106,17 @@ fn cases(s: &[u8]) {
     while at < s.len() {
         let e = text::until(s, at, b'\n');
         if s[at] != b'#' {
-            kept = case(&s[at..e], kept, &mut window);
+            kept = case(rt, &s[at..e], kept, &mut window);
         }
         at = e + 1;
     }
 }
 
-fn main() {
+fn main(rt: HostRuntime) {
     let mut room = io::large_buffer();
-    let taken = program::read(b"cases", 1, &mut room);
+    let taken = program::read(&rt, b"cases", 1, &mut room);
     if taken.ok {
         let n = taken.n;
-        cases(&room[..n]);
+        cases(&rt, &room[..n]);
     }
 }

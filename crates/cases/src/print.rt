@@ -1,8 +1,17 @@
-// What the cases print of an output.
+// What the cases print, and what of an output. Whether it was written is not asked.
 ghost use Rattle.std.specs.Prelude.{◌<◌};
 
+pub fn print(rt: &impl Print, text: &[u8]) {
+    let _ = program::print(rt, text);
+}
+
+// text, and a number behind it
+pub fn print_number(rt: &impl Print, text: &[u8], n: u64) {
+    let _ = program::print_number(rt, text, n);
+}
+
 // Octet i counts i + 1 times, modulo 65,521: from the last octet on, what is behind an octet is counted again with it.
-pub fn digest(name: &[u8], octets: &[u8]) {
+pub fn digest(rt: &impl Print, name: &[u8], octets: &[u8]) {
     let mut behind: u64 = 0;
     let mut sum: u64 = 0;
     let mut i = octets.len();
@@ -11,5 +20,5 @@ pub fn digest(name: &[u8], octets: &[u8]) {
         behind = (behind + octets[i] as u64) % 65521;
         sum = (sum + behind) % 65521;
     }
-    program::print_number(name, sum);
+    print_number(rt, name, sum);
 }

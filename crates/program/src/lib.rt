@@ -90,7 +90,7 @@ pub fn refused(program: &[u8], number: u64) {
 // the same of a call of T1
 pub fn t1_refused(program: &[u8], number: u64) {
     begin_refused(program, number);
-    io::write_all(STDERR, refusal::t1_words(number));
+    refusal::print_t1_refusal(STDERR, number);
     io::write_all(STDERR, b"\n");
 }
 
@@ -320,7 +320,7 @@ fn take<S: Read, F: Read>(source: &mut Source<S, F>, room: &mut [u8]) -> Got
 }
 
 // the same of a whole input; where it is not ok, that is said
-#[derive(Drop)]
+#[derive(Clone, Copy)]
 pub struct Taken {
     pub n: usize,
     pub ok: bool,

@@ -30,7 +30,7 @@ pub fn words(number: u64) -> &'static [u8] {
 }
 
 // The same of a call of T1, which looks for 1 to 7 and 16: that one has the line behind 7.
-pub fn t1_words(number: u64) -> &'static [u8] {
+fn t1_words(number: u64) -> &'static [u8] {
     let k = if number == 16 { 8 } else { number };
     line_at(
         b"accepted\n\
@@ -44,4 +44,9 @@ pub fn t1_words(number: u64) -> &'static [u8] {
         the signalling is not 96 octets a superframe, or one is neither 0 nor 1",
         k,
     )
+}
+
+// those of a call of T1, on a descriptor
+pub fn print_t1_refusal(fd: i32, number: u64) -> bool {
+    io::write_all(fd, t1_words(number))
 }

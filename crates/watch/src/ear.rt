@@ -5,15 +5,16 @@ ghost use Rattle.watch.specs.Watch.{Adds};
 
 use heard::Hearing;
 use printed::Change;
+use program::Printed;
 use signals::Signalling;
 
 // What is heard behind the last frame that left, and what was when a signalling multiframe was last read; and whether
-// all changes could be printed.
-#[derive(Drop)]
+// all changes could be printed, or why not.
+#[derive(Clone, Copy)]
 pub struct Heard {
     pub now: Hearing,
     pub last: Hearing,
-    pub ok: bool,
+    pub ok: Printed,
 }
 
 pub fn nothing() -> Heard
@@ -22,13 +23,13 @@ pub fn nothing() -> Heard
     Heard {
         now: heard::nothing(),
         last: heard::nothing(),
-        ok: true,
+        ok: Ok(()),
     }
 }
 
 // a line for each channel that changes with the signalling multiframe that is read now; the first has none before it
-fn print_changes(last: Hearing, now: Hearing) -> bool {
-    let mut ok = true;
+fn print_changes(rt: &impl Print, last: Hearing, now: Hearing) -> Printed {
+    let mut ok = Ok(());
     if last.multiframes == 0 {
         return ok;
     }
@@ -37,13 +38,13 @@ fn print_changes(last: Hearing, now: Hearing) -> bool {
             was: heard::channel(last, c),
             is: heard::channel(now, c),
         };
-        ok = ok & printed::print_change(heard::began(now), c, change);
+        ok = ok.and(printed::print_change(rt, heard::began(now), c, change));
     }
     ok
 }
 
 // one frame more, its slot 16 this octet
-fn hear_frame(x: Heard, octet: u8) -> Heard
+fn hear_frame(rt: &impl Print, x: Heard, octet: u8) -> Heard
     requires { Few x.now (2 ^ 40) }
     ensures { Adds 1 x.now result.now }
 {
@@ -53,7 +54,7 @@ fn hear_frame(x: Heard, octet: u8) -> Heard
         return Heard {
             now: now,
             last: now,
-            ok: x.ok & print_changes(x.last, now),
+            ok: x.ok.and(print_changes(rt, x.last, now)),
         };
     }
     let last = x.last;
@@ -65,13 +66,13 @@ fn hear_frame(x: Heard, octet: u8) -> Heard
 }
 
 // the frames of a payload that leaves
-pub fn hear(x: Heard, payload: &[u8]) -> Heard
+pub fn hear(rt: &impl Print, x: Heard, payload: &[u8]) -> Heard
     requires { Few x.now (2 ^ 39) × (length payload.now ≤ 5952) }
     ensures { Adds 192 x.now result.now }
 {
     let mut heard = x;
     for f in 0..payload.len() / 31 {
-        heard = hear_frame(heard, payload[31 * f + 15]);
+        heard = hear_frame(rt, heard, payload[31 * f + 15]);
     }
     heard
 }
