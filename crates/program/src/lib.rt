@@ -278,7 +278,7 @@ pub fn open<R: Env + Files + std::io::Input>(
 }
 
 // what was read: so many octets, up to the input's end or to the room's; or up to a failure, and why it failed
-#[derive(Drop)]
+#[derive(Clone, Copy)]
 pub struct Got {
     pub n: usize,
     pub ok: std::io::Result<()>,
