@@ -3,7 +3,7 @@ use Prim.Native.Nat.{ℕ, ◌+◌, ◌-◌, ◌*◌, ◌/◌, ◌%◌}
 use mathlib.Core.Path.{◌≡◌, refl}
 use mathlib.Core.Bool.{cond}
 use mathlib.Core.List.{List, ◌∷◌}
-use mathlib.Core.Option.{none, some}
+use Rattle.std.specs.Prelude.{None, Some}
 use lib.Dec.{eqb, leb}
 use lib.ListN.{get_or}
 use Rattle.line.specs.Bit.{bit_at}
@@ -20,24 +20,24 @@ image a n =
     tab n
     (λ i. cond (eqb (i % 64) 0) 27 (cond (eqb (i % 64) 32) (64 + 128 * cond (leb a (i / 64)) (get_or signal ((i / 64 - a) % 8) 0) 1) 0))
 
-at_once : first_standing (image 0 2048) ≡ some (record { place = 0; k = 0 })
+at_once : first_standing (image 0 2048) ≡ Some (record { place = 0; k = 0 })
 unfolding image first_standing first standing basic pair_at signal_at all bit_at wrong_bits sum tab_from
 at_once = refl
 
-an_octet_on : first_standing (0 ∷ image 0 2048) ≡ some (record { place = 8; k = 0 })
+an_octet_on : first_standing (0 ∷ image 0 2048) ≡ Some (record { place = 8; k = 0 })
 unfolding image first_standing first standing basic pair_at signal_at all bit_at wrong_bits sum tab_from
 an_octet_on = refl
 
-an_octet_short : first_standing (image 0 2047) ≡ none
+an_octet_short : first_standing (image 0 2047) ≡ None
 unfolding image first_standing first standing basic pair_at signal_at all bit_at wrong_bits sum tab_from
 an_octet_short = refl
 
 -- 18 is the last k that there is
-last_k : first_standing (image 18 2048) ≡ some (record { place = 0; k = 18 })
+last_k : first_standing (image 18 2048) ≡ Some (record { place = 0; k = 18 })
 unfolding image first_standing first standing basic pair_at signal_at all bit_at wrong_bits sum tab_from
 last_k = refl
 
-past_the_last_k : first_standing (image 19 2048) ≡ none
+past_the_last_k : first_standing (image 19 2048) ≡ None
 unfolding image first_standing first standing basic pair_at signal_at all bit_at wrong_bits sum tab_from
 past_the_last_k = refl
 

@@ -4,7 +4,8 @@ use mathlib.Core.Path.{◌≡◌, refl, sym, ap, ap₂, ◌∙◌}
 use mathlib.Core.Bool.{Bool, true, false, cond, ◌&&◌, ◌||◌, and-eq-true_iff, or-true}
 use mathlib.Core.List.{List}
 use mathlib.Core.Logic.{◌↔◌, inl, inr}
-use mathlib.Core.Option.{Option, none, some, none-ne-some, some-injective}
+use Rattle.std.specs.Prelude.{Option, None, Some}
+use Rattle.base.proofs.OptionLaws.{none-ne-some, some-injective}
 use mathlib.Mathlib.Data.Bool.Basic.{eq-false_of_not-eq-true}
 use native.Mathlib.Omega.{arith}
 use borrow.Author.Tests.{leb-true, le-leb, eqb-true, eq-eqb}
@@ -104,15 +105,15 @@ module _ (s : List ℕ) (p : ℕ) where
   pair_below k h = omega arith
 
   -- the least k that is worked out
-  pub least_k : (k : ℕ) → least 32 (pair_at s p) ≡ some k ↔ (Pair s p k × ((l : ℕ) → l < k → Pair s p l → ⊥))
+  pub least_k : (k : ℕ) → least 32 (pair_at s p) ≡ Some k ↔ (Pair s p k × ((l : ℕ) → l < k → Pair s p l → ⊥))
   least_k k = (there, back)
     where
-      there : least 32 (pair_at s p) ≡ some k → Pair s p k × ((l : ℕ) → l < k → Pair s p l → ⊥)
+      there : least 32 (pair_at s p) ≡ Some k → Pair s p k × ((l : ℕ) → l < k → Pair s p l → ⊥)
       there e =
           let l = (least_some 32 (pair_at s p) k).0 e in
           ((pair_holds k).0 l.passes, λ j h. denies (pair_holds j) (l.before j h))
 
-      back : Pair s p k × ((l : ℕ) → l < k → Pair s p l → ⊥) → least 32 (pair_at s p) ≡ some k
+      back : Pair s p k × ((l : ℕ) → l < k → Pair s p l → ⊥) → least 32 (pair_at s p) ≡ Some k
       back h =
           (least_some 32 (pair_at s p) k).1 (record {
             below = omega (arith, pair_below k h.0);
@@ -120,22 +121,22 @@ module _ (s : List ℕ) (p : ℕ) where
             before = λ j g. eq-false_of_not-eq-true (λ e. h.1 j g ((pair_holds j).0 e));
           })
 
-  pub no_k : least 32 (pair_at s p) ≡ none ↔ ((k : ℕ) → Pair s p k → ⊥)
+  pub no_k : least 32 (pair_at s p) ≡ None ↔ ((k : ℕ) → Pair s p k → ⊥)
   no_k = (
     λ e k h. denies (pair_holds k) (least_none 32 (pair_at s p) e k (omega (arith, pair_below k h))) h,
     λ h. none_least 32 (pair_at s p) (λ k l. eq-false_of_not-eq-true (λ e. h k ((pair_holds k).0 e))),
   )
 
   -- what `standing` is worked out from
-  from_cond : (b : Bool) (o : Option ℕ) (w : Standing) → cond b (with_place p o) none ≡ some w
-      → (b ≡ true) × (o ≡ some w.k) × (w.place ≡ p)
+  from_cond : (b : Bool) (o : Option ℕ) (w : Standing) → cond b (with_place p o) None ≡ Some w
+      → (b ≡ true) × (o ≡ Some w.k) × (w.place ≡ p)
   from_cond false o w e = absurd (none-ne-some w e)
-  from_cond true none w e = absurd (none-ne-some w e)
-  from_cond true (some k) w e =
+  from_cond true None w e = absurd (none-ne-some w e)
+  from_cond true (Some k) w e =
       let q = some-injective _ _ e in
-      (refl, ap (λ (x : Standing). some x.k) q, sym (ap (λ (x : Standing). x.place) q))
+      (refl, ap (λ (x : Standing). Some x.k) q, sym (ap (λ (x : Standing). x.place) q))
 
-  some_stands : (w : Standing) → standing s p ≡ some w → (w.place ≡ p) × Stands s p w.k
+  some_stands : (w : Standing) → standing s p ≡ Some w → (w.place ≡ p) × Stands s p w.k
   unfolding standing
   some_stands w e =
       let a = from_cond (leb (p + 16384) (8 * length s) && basic s p) (least 32 (pair_at s p)) w e in
@@ -143,37 +144,37 @@ module _ (s : List ℕ) (p : ℕ) where
       let l = (least_k w.k).0 a.1 in
       (a.2, record { room = leb-true _ _ b.0; basic = basic_holds.0 b.1; pair = l.0; least = l.1 })
 
-  pub stands_here : (k : ℕ) → standing s p ≡ some (record { place = p; k = k }) ↔ Stands s p k
+  pub stands_here : (k : ℕ) → standing s p ≡ Some (record { place = p; k = k }) ↔ Stands s p k
   unfolding standing
   stands_here k = (λ e. (some_stands (record { place = p; k = k }) e).1, back)
     where
-      back : Stands s p k → standing s p ≡ some (record { place = p; k = k })
+      back : Stands s p k → standing s p ≡ Some (record { place = p; k = k })
       back h = rw (le-leb _ _ h.room, basic_holds.1 h.basic, (least_k k).1 (h.pair, h.least))
 
-  none_here : ((k : ℕ) → Stands s p k → ⊥) → standing s p ≡ none
+  none_here : ((k : ℕ) → Stands s p k → ⊥) → standing s p ≡ None
   none_here h = go (standing s p) refl
     where
-      go : (o : Option Standing) → standing s p ≡ o → o ≡ none
-      go none e = refl
-      go (some w) e = absurd (h w.k (some_stands w e).1)
+      go : (o : Option Standing) → standing s p ≡ o → o ≡ None
+      go None e = refl
+      go (Some w) e = absurd (h w.k (some_stands w e).1)
 
   -- where some k is there, there is a least
   pub some_k : (k : ℕ) → p + 16384 ≤ 8 * length s → Basic s p → Pair s p k → (l : ℕ) × Stands s p l
   some_k k room basic pair = go (least 32 (pair_at s p)) refl
     where
       go : (o : Option ℕ) → least 32 (pair_at s p) ≡ o → (l : ℕ) × Stands s p l
-      go none e = absurd (no_k.0 e k pair)
-      go (some l) e =
+      go None e = absurd (no_k.0 e k pair)
+      go (Some l) e =
           let h = (least_k l).0 e in
           (l, record { room = room; basic = basic; pair = h.0; least = h.1 })
 
 module _ (s : List ℕ) where
   -- the place and the k that are worked out are those of the first place that stands
-  pub first_stands : (p k : ℕ) → first_standing s ≡ some (record { place = p; k = k }) ↔ StandsFirst s p k
+  pub first_stands : (p k : ℕ) → first_standing s ≡ Some (record { place = p; k = k }) ↔ StandsFirst s p k
   unfolding first_standing
   first_stands p k = (there, back)
     where
-      there : first_standing s ≡ some (record { place = p; k = k }) → StandsFirst s p k
+      there : first_standing s ≡ Some (record { place = p; k = k }) → StandsFirst s p k
       there e =
           let w = first_some (8 * length s) (standing s) (record { place = p; k = k }) e in
           let a = some_stands s w.0 (record { place = p; k = k }) w.2 in
@@ -182,7 +183,7 @@ module _ (s : List ℕ) where
             before = λ q l h g. none-ne-some _ (sym (w.3 q (omega arith)) ∙ (stands_here s q l).1 g);
           }
 
-      back : StandsFirst s p k → first_standing s ≡ some (record { place = p; k = k })
+      back : StandsFirst s p k → first_standing s ≡ Some (record { place = p; k = k })
       back h =
           some_first (8 * length s) p (standing s) (record { place = p; k = k })
           (omega (arith, h.stands.room))
@@ -190,15 +191,15 @@ module _ (s : List ℕ) where
           ((stands_here s p k).1 h.stands)
 
   -- and there is none exactly if no place stands
-  pub none_stands : first_standing s ≡ none ↔ ((p k : ℕ) → Stands s p k → ⊥)
+  pub none_stands : first_standing s ≡ None ↔ ((p k : ℕ) → Stands s p k → ⊥)
   unfolding first_standing
   none_stands = (there, back)
     where
-      there : first_standing s ≡ none → (p k : ℕ) → Stands s p k → ⊥
+      there : first_standing s ≡ None → (p k : ℕ) → Stands s p k → ⊥
       there e p k h =
           none-ne-some _ (sym (first_none (8 * length s) (standing s) e p (omega (arith, h.room))) ∙ (stands_here s p k).1 h)
 
-      back : ((p k : ℕ) → Stands s p k → ⊥) → first_standing s ≡ none
+      back : ((p k : ℕ) → Stands s p k → ⊥) → first_standing s ≡ None
       back h = none_first (8 * length s) (standing s) (λ p l. none_here s p (h p))
 
   -- so it is one place and one k
@@ -224,11 +225,11 @@ module _ (s : List ℕ) where
     λ h. rw (le-leb _ _ h.0, (basic_holds s p).1 h.1),
   )
 
-  pub basic_first : (p : ℕ) → first_basic s ≡ some p ↔ BasicFirst s p
+  pub basic_first : (p : ℕ) → first_basic s ≡ Some p ↔ BasicFirst s p
   unfolding first_basic
   basic_first p = (there, back)
     where
-      there : first_basic s ≡ some p → BasicFirst s p
+      there : first_basic s ≡ Some p → BasicFirst s p
       there e =
           let l = (least_some (8 * length s) (basic_with_room s) p).0 e in
           let h = (with_room p).0 l.passes in
@@ -238,7 +239,7 @@ module _ (s : List ℕ) where
             before = λ q g b. denies (with_room q) (l.before q g) (omega (arith, h.0), b);
           }
 
-      back : BasicFirst s p → first_basic s ≡ some p
+      back : BasicFirst s p → first_basic s ≡ Some p
       back h =
           (least_some (8 * length s) (basic_with_room s) p).1 (record {
             below = omega (arith, h.room);
@@ -246,7 +247,7 @@ module _ (s : List ℕ) where
             before = λ q g. eq-false_of_not-eq-true (λ e. h.before q g ((with_room q).0 e).1);
           })
 
-  pub none_basic : first_basic s ≡ none ↔ ((p : ℕ) → p + 16384 ≤ 8 * length s → Basic s p → ⊥)
+  pub none_basic : first_basic s ≡ None ↔ ((p : ℕ) → p + 16384 ≤ 8 * length s → Basic s p → ⊥)
   unfolding first_basic
   none_basic = (
     λ e p room b. denies (with_room p) (least_none (8 * length s) (basic_with_room s) e p (omega arith)) (room, b),
@@ -254,25 +255,25 @@ module _ (s : List ℕ) where
   )
 
   -- where none has basic alignment none stands
-  pub basic_none : first_basic s ≡ none → first_standing s ≡ none
+  pub basic_none : first_basic s ≡ None → first_standing s ≡ None
   basic_none e = none_stands.1 (λ p k h. none_basic.0 e p h.room h.basic)
 
 -- what the search answers, case by case
 pub found_at : (o : Option Standing) (b : Option ℕ) (p k : ℕ) → found o b ≡ At p k
-    → o ≡ some (record { place = p; k = k })
-found_at (some w) b p k e = ap₂ (λ x y. some (record { place = x; k = y })) (cc) (cc)
-found_at none (some q) p k e = let z : ◌≡◌ {A = ℕ} 0 1 = cc in absurd (omega arith)
-found_at none none p k e = let z : ◌≡◌ {A = ℕ} 0 1 = cc in absurd (omega arith)
+    → o ≡ Some (record { place = p; k = k })
+found_at (Some w) b p k e = ap₂ (λ x y. Some (record { place = x; k = y })) (cc) (cc)
+found_at None (Some q) p k e = let z : ◌≡◌ {A = ℕ} 0 1 = cc in absurd (omega arith)
+found_at None None p k e = let z : ◌≡◌ {A = ℕ} 0 1 = cc in absurd (omega arith)
 
-pub found_basic : (o : Option Standing) (b : Option ℕ) (p : ℕ) → found o b ≡ BasicAt p → (o ≡ none) × (b ≡ some p)
-found_basic (some w) b p e = let z : ◌≡◌ {A = ℕ} 0 1 = cc in absurd (omega arith)
-found_basic none (some q) p e = (refl, ap some (cc))
-found_basic none none p e = let z : ◌≡◌ {A = ℕ} 0 1 = cc in absurd (omega arith)
+pub found_basic : (o : Option Standing) (b : Option ℕ) (p : ℕ) → found o b ≡ BasicAt p → (o ≡ None) × (b ≡ Some p)
+found_basic (Some w) b p e = let z : ◌≡◌ {A = ℕ} 0 1 = cc in absurd (omega arith)
+found_basic None (Some q) p e = (refl, ap Some (cc))
+found_basic None None p e = let z : ◌≡◌ {A = ℕ} 0 1 = cc in absurd (omega arith)
 
-pub found_nothing : (o : Option Standing) (b : Option ℕ) → found o b ≡ Nothing → (o ≡ none) × (b ≡ none)
-found_nothing (some w) b e = let z : ◌≡◌ {A = ℕ} 0 1 = cc in absurd (omega arith)
-found_nothing none (some q) e = let z : ◌≡◌ {A = ℕ} 0 1 = cc in absurd (omega arith)
-found_nothing none none e = (refl, refl)
+pub found_nothing : (o : Option Standing) (b : Option ℕ) → found o b ≡ Nothing → (o ≡ None) × (b ≡ None)
+found_nothing (Some w) b e = let z : ◌≡◌ {A = ℕ} 0 1 = cc in absurd (omega arith)
+found_nothing None (Some q) e = let z : ◌≡◌ {A = ℕ} 0 1 = cc in absurd (omega arith)
+found_nothing None None e = (refl, refl)
 
 -- that is, the first place that stands, the first with basic alignment where none does, or nothing where none has it
 pub finds_at : (s : List ℕ) (p k : ℕ) → found_in s ≡ At p k ↔ StandsFirst s p k
@@ -297,7 +298,7 @@ finds_nothing s = (
 )
 
 -- the bits from the place on are there, and k is at most 18
-pub first_within : (s : List ℕ) (p k : ℕ) → first_standing s ≡ some (record {
+pub first_within : (s : List ℕ) (p k : ℕ) → first_standing s ≡ Some (record {
   place =
       p;
   k = k;

@@ -5,7 +5,7 @@ use mathlib.Core.Bool.{Bool, true, false, cond, not}
 use mathlib.Core.List.{List}
 use mathlib.Core.Logic.Iff
 use mathlib.Core.Logic.{◌↔◌}
-use mathlib.Core.Option.{Option, none, some}
+use Rattle.std.specs.Prelude.{Option, None, Some}
 use native.Mathlib.Omega.{arith}
 use borrow.Author.Tests.{eqb-true, eqb-false, eq-eqb, ne_eqb, ltb-true, ltb-false, lt-ltb, le-ltb, not-true, not-false}
 use lib.Dec.{eqb}
@@ -64,8 +64,8 @@ module _ (s : List ℕ) (p : ℕ) (room : p + 16384 ≤ 8 * length s) where
           ((word_holds s p).0 ea, omega (arith, bit_lt s (p + 257), eqb-false (bit_at s (p + 257)) 1 eb))
       go true ea true eb false ec o eo =
           ((word_holds s p).0 ea, eqb-true _ _ eb, (first_wrong_at s (p + 512) (first_wrong s (p + 512))).0 (ec, refl))
-      go true ea true eb true ec none eo = ((basic_parts s p).0 (ea, eb, ec), (no_k s p).0 eo)
-      go true ea true eb true ec (some k) eo =
+      go true ea true eb true ec None eo = ((basic_parts s p).0 (ea, eb, ec), (no_k s p).0 eo)
+      go true ea true eb true ec (Some k) eo =
           let l = (least_k s p k).0 eo in
           record { room = room; basic = (basic_parts s p).0 (ea, eb, ec); pair = l.0; least = l.1 }
 

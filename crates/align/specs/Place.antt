@@ -1,7 +1,7 @@
 -- Which place stands (G.706, 4.1.2 and 4.2; KIT §4), as it is worked out: the first of an image that does, with its
 -- least k; and where none does, the first with basic alignment.
 use Rattle.std.specs.Prelude.{if◌then◌else◌, ℕ, ◌+◌, ◌*◌, Bool, ◌&&◌, ◌||◌, List, eqb, leb, length, get_or}
-use Rattle.std.proofs.Math.Option.{Option, none, some}
+use Rattle.std.specs.Prelude.{Option, None, Some}
 use Rattle.line.specs.Bit.{bit_at}
 use Rattle.base.specs.Tab.{all, first, least}
 use Rattle.line.specs.Signal.{signal}
@@ -38,12 +38,12 @@ pub record Standing : Type 0 where
   pub k : ℕ
 
 abbrev pub with_place : ℕ → Option ℕ → Option Standing
-with_place p (some k) = some (record { place = p; k = k })
-with_place p none = none
+with_place p (Some k) = Some (record { place = p; k = k })
+with_place p None = None
 
 -- the place p with its least k, where it stands
 unfoldable pub standing : List ℕ → ℕ → Option Standing
-standing s p = if basic_with_room s p then with_place p (least 32 (pair_at s p)) else none
+standing s p = if basic_with_room s p then with_place p (least 32 (pair_at s p)) else None
 
 -- the first place in the image, counted from bit 0, that stands
 unfoldable pub first_standing : List ℕ → Option Standing
@@ -56,9 +56,9 @@ first_basic s = least (8 * length s) (basic_with_room s)
 -- What the search answers of the two: the first place that stands; where none does, the first with basic alignment;
 -- where none has that, nothing.
 abbrev pub found : Option Standing → Option ℕ → Found
-found (some w) b = At w.place w.k
-found none (some p) = BasicAt p
-found none none = Nothing
+found (Some w) b = At w.place w.k
+found None (Some p) = BasicAt p
+found None None = Nothing
 
 abbrev pub found_in : List ℕ → Found
 found_in s = found (first_standing s) (first_basic s)

@@ -1,6 +1,6 @@
 -- What `why` says of one place (KIT §4): that it stands, with its least k, or the first condition that fails there.
 use Rattle.std.specs.Prelude.{if◌then◌else◌, ℕ, ◌+◌, ◌*◌, not, List, [], ◌∷◌, eqb, ltb, length, get_or}
-use Rattle.std.proofs.Math.Option.{Option, none, some}
+use Rattle.std.specs.Prelude.{Option, None, Some}
 use Rattle.base.specs.Answer.{accepted, Refusal, ◌when◌, first_number}
 use Rattle.base.specs.Tab.{least}
 use Rattle.line.specs.Bit.{bit_at}
@@ -11,8 +11,8 @@ use Rattle.align.specs.declared.Why.TheVariants.{NoneFails, FirstWord, Bit2, Sec
 
 -- the least k, where there is one
 abbrev pub signalled : Option ℕ → Why
-signalled (some k) = NoneFails k
-signalled none = NoPair
+signalled (Some k) = NoneFails k
+signalled None = NoPair
 
 -- what is said of a place with room: the first condition that fails
 unfoldable pub judged : List ℕ → ℕ → Why

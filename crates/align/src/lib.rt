@@ -4,7 +4,7 @@
 pub mod ask;
 
 ghost use Rattle.std.specs.Prelude.{◌≡◌, ◌+◌, ◌-◌, ◌*◌, ◌^◌, ◌<◌, ◌≤◌, min, ltb, length};
-ghost use Rattle.std.proofs.Math.Option.{none};
+ghost use Rattle.std.specs.Prelude.{None};
 ghost use Rattle.base.specs.Choice.{when_so};
 ghost use Rattle.line.specs.Bit.{Room};
 ghost use Rattle.align.specs.Place.{basic, signal_at, again_at, pair_at, found, found_in};
@@ -241,7 +241,7 @@ fn lesser(a: usize, b: usize) -> usize
 
 // what is answered where no place stands: the first with basic alignment, if it is before the end
 fn unpaired(first: usize, bits: usize) -> Found
-    ensures { result ≡ found none (when_so (ltb first bits) first) }
+    ensures { result ≡ found None (when_so (ltb first bits) first) }
 {
     if first < bits {
         return Found::BasicAt { place: first };

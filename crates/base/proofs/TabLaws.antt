@@ -3,7 +3,8 @@ use Prim.Native.Nat.{ℕ, zero, suc, ◌+◌, ◌*◌, ◌<◌, ◌≤◌, zero-
 use mathlib.Core.Path.{◌≡◌, refl, sym, ◌∙◌, ap, ap₂}
 use mathlib.Core.Bool.{Bool, true, false, cond, ◌&&◌, and-eq-true_iff}
 use mathlib.Core.List.{List, [], ◌∷◌, ◌++◌}
-use mathlib.Core.Option.{Option, none, some, none-ne-some, some-ne-none, some-injective}
+use Rattle.std.specs.Prelude.{Option, None, Some}
+use Rattle.base.proofs.OptionLaws.{none-ne-some, some-ne-none, some-injective}
 use mathlib.Core.Logic.{inl, inr, ◌↔◌}
 use native.Mathlib.Nat.{add-zero, zero-add, suc-add, add-suc, suc-mul, mul-zero, mul-suc, mul-add, not-suc-le-zero}
 use native.Mathlib.Nat.{le_of_suc-le-suc, eq-or-lt_of_le}
@@ -71,48 +72,49 @@ module _ {ℓ} {A : Type ℓ} where
   pub tab_fill : (d : List A) (n : ℕ) (f : ℕ → A) → length d ≤ n → take n d ≡ tab n f → d ≡ tab n f
   tab_fill d n f h e = sym (take_all n d h) ∙ e
 
-  -- what comes first
-  pub first_more : (n : ℕ) (f : ℕ → Option A) → first n f ≡ none → f n ≡ none → first (n + 1) f ≡ none
+-- what comes first
+module _ {A : Type 0} where
+  pub first_more : (n : ℕ) (f : ℕ → Option A) → first n f ≡ None → f n ≡ None → first (n + 1) f ≡ None
   unfolding first
   first_more n f e k = rw (add-one, first, e, k)
 
-  pub some_first : (n i : ℕ) (f : ℕ → Option A) (a : A) → i < n → first i f ≡ none → f i ≡ some a → first n f ≡ some a
+  pub some_first : (n i : ℕ) (f : ℕ → Option A) (a : A) → i < n → first i f ≡ None → f i ≡ Some a → first n f ≡ Some a
   unfolding first
   some_first zero i f a h e k = absurd (not-suc-le-zero h)
   some_first (suc n) i f a h e k =
       elim (eq-or-lt_of_le (le_of_suc-le-suc h)) [ inl q ↦ rw (← q, e, k) | inr l ↦ rw (some_first n i f a l e k) ]
 
-  none_left : (o : Option A) (p : Option A) → or_else o p ≡ none → (o ≡ none) × (p ≡ none)
-  none_left none p e = (refl, e)
-  none_left (some a) p e = absurd (some-ne-none a e)
+  none_left : (o : Option A) (p : Option A) → or_else o p ≡ None → (o ≡ None) × (p ≡ None)
+  none_left None p e = (refl, e)
+  none_left (Some a) p e = absurd (some-ne-none a e)
 
-  pub first_none : (n : ℕ) (f : ℕ → Option A) → first n f ≡ none → (i : ℕ) → i < n → f i ≡ none
+  pub first_none : (n : ℕ) (f : ℕ → Option A) → first n f ≡ None → (i : ℕ) → i < n → f i ≡ None
   unfolding first
   first_none zero f e i h = absurd (not-suc-le-zero h)
   first_none (suc n) f e i h =
       let b = none_left (first n f) (f n) e in
       elim (eq-or-lt_of_le (le_of_suc-le-suc h)) [ inl q ↦ rw q b.1 | inr l ↦ first_none n f b.0 i l ]
 
-  pub none_first : (n : ℕ) (f : ℕ → Option A) → ((i : ℕ) → i < n → f i ≡ none) → first n f ≡ none
+  pub none_first : (n : ℕ) (f : ℕ → Option A) → ((i : ℕ) → i < n → f i ≡ None) → first n f ≡ None
   unfolding first
   none_first zero f h = refl
   none_first (suc n) f h = rw (none_first n f (λ i l. h i (omega arith)), h n (omega arith))
 
-  pub first_less : (m n : ℕ) (f : ℕ → Option A) → m ≤ n → first n f ≡ none → first m f ≡ none
+  pub first_less : (m n : ℕ) (f : ℕ → Option A) → m ≤ n → first n f ≡ None → first m f ≡ None
   first_less m n f h e = none_first m f (λ i l. first_none n f e i (omega arith))
 
   -- the i at which the first stands
-  pub first_some : (n : ℕ) (f : ℕ → Option A) (a : A) → first n f ≡ some a
-      → (i : ℕ) × (i < n) × (f i ≡ some a) × ((j : ℕ) → j < i → f j ≡ none)
+  pub first_some : (n : ℕ) (f : ℕ → Option A) (a : A) → first n f ≡ Some a
+      → (i : ℕ) × (i < n) × (f i ≡ Some a) × ((j : ℕ) → j < i → f j ≡ None)
   unfolding first
   first_some zero f a e = absurd (none-ne-some a e)
   first_some (suc n) f a e = go (first n f) refl (first_some n f a) e
     where
       go : (o : Option A) → first n f ≡ o
-          → (first n f ≡ some a → (i : ℕ) × (i < n) × (f i ≡ some a) × ((j : ℕ) → j < i → f j ≡ none))
-          → or_else o (f n) ≡ some a → (i : ℕ) × (i < suc n) × (f i ≡ some a) × ((j : ℕ) → j < i → f j ≡ none)
-      go none q r k = (n, omega arith, k, first_none n f q)
-      go (some b) q r k = let w = r (q ∙ k) in (w.0, omega arith, w.2, w.3)
+          → (first n f ≡ Some a → (i : ℕ) × (i < n) × (f i ≡ Some a) × ((j : ℕ) → j < i → f j ≡ None))
+          → or_else o (f n) ≡ Some a → (i : ℕ) × (i < suc n) × (f i ≡ Some a) × ((j : ℕ) → j < i → f j ≡ None)
+      go None q r k = (n, omega arith, k, first_none n f q)
+      go (Some b) q r k = let w = r (q ∙ k) in (w.0, omega arith, w.2, w.3)
 
 -- a table of a list's elements
 pub tab_of : (n : ℕ) (f : ℕ → ℕ) (l : List ℕ) → length l ≡ n → ((i : ℕ) → i < n → f i ≡ get_or l i 0) → tab n f ≡ l
@@ -121,24 +123,24 @@ tab_of n f l e h =
     (λ i l. let k : i < n = rw length_tab at l in get_d_tab n f i 0 k ∙ h i k)
 
 -- what passes first
-pub when_so_some : (b : Bool) (i k : ℕ) → when_so b i ≡ some k → (b ≡ true) × (i ≡ k)
+pub when_so_some : (b : Bool) (i k : ℕ) → when_so b i ≡ Some k → (b ≡ true) × (i ≡ k)
 when_so_some true i k e = (refl, some-injective i k e)
 when_so_some false i k e = absurd (none-ne-some k e)
 
-pub when_so_none : (b : Bool) (i : ℕ) → when_so b i ≡ none → b ≡ false
+pub when_so_none : (b : Bool) (i : ℕ) → when_so b i ≡ None → b ≡ false
 when_so_none true i e = absurd (some-ne-none i e)
 when_so_none false i e = refl
 
-pub least_more : (n : ℕ) (t : ℕ → Bool) → least n t ≡ none → t n ≡ false → least (n + 1) t ≡ none
+pub least_more : (n : ℕ) (t : ℕ → Bool) → least n t ≡ None → t n ≡ false → least (n + 1) t ≡ None
 least_more n t e k = first_more n (λ i. when_so (t i) i) e (rw k)
 
-pub some_least : (n i : ℕ) (t : ℕ → Bool) → i < n → least i t ≡ none → t i ≡ true → least n t ≡ some i
+pub some_least : (n i : ℕ) (t : ℕ → Bool) → i < n → least i t ≡ None → t i ≡ true → least n t ≡ Some i
 some_least n i t h e k = some_first n i (λ i. when_so (t i) i) i h e (rw k)
 
-pub least_none : (n : ℕ) (t : ℕ → Bool) → least n t ≡ none → (i : ℕ) → i < n → t i ≡ false
+pub least_none : (n : ℕ) (t : ℕ → Bool) → least n t ≡ None → (i : ℕ) → i < n → t i ≡ false
 least_none n t e i h = when_so_none (t i) i (first_none n (λ i. when_so (t i) i) e i h)
 
-pub none_least : (n : ℕ) (t : ℕ → Bool) → ((i : ℕ) → i < n → t i ≡ false) → least n t ≡ none
+pub none_least : (n : ℕ) (t : ℕ → Bool) → ((i : ℕ) → i < n → t i ≡ false) → least n t ≡ None
 none_least n t h = none_first n (λ i. when_so (t i) i) (λ i l. rw (h i l))
 
 pub record Least (n : ℕ) (t : ℕ → Bool) (i : ℕ) : Type 0 where
@@ -146,10 +148,10 @@ pub record Least (n : ℕ) (t : ℕ → Bool) (i : ℕ) : Type 0 where
   pub passes : t i ≡ true
   pub before : (j : ℕ) → j < i → t j ≡ false
 
-pub least_some : (n : ℕ) (t : ℕ → Bool) (i : ℕ) → least n t ≡ some i ↔ Least n t i
+pub least_some : (n : ℕ) (t : ℕ → Bool) (i : ℕ) → least n t ≡ Some i ↔ Least n t i
 least_some n t i = (there, back)
   where
-    there : least n t ≡ some i → Least n t i
+    there : least n t ≡ Some i → Least n t i
     there e =
         let w = first_some n (λ i. when_so (t i) i) i e in
         let q = when_so_some (t w.0) w.0 i w.2 in
@@ -159,7 +161,7 @@ least_some n t i = (there, back)
           before = λ j l. when_so_none (t j) j (w.3 j (omega arith));
         }
 
-    back : Least n t i → least n t ≡ some i
+    back : Least n t i → least n t ≡ Some i
     back l = some_least n i t l.below (none_least i t l.before) l.passes
 
 -- sums and counts

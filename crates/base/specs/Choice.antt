@@ -1,18 +1,18 @@
 -- One of two.
 use Rattle.std.specs.Prelude.{Bool, true, false}
-use Rattle.std.proofs.Math.Option.{Option, none, some}
+use Rattle.std.specs.Prelude.{Option, None, Some}
 
 -- a where it is there, else b
-abbrev pub or_else {ℓ} : {A : Type ℓ} → Option A → Option A → Option A
-or_else (some a) b = some a
-or_else none b = b
+abbrev pub or_else : {A : Type 0} → Option A → Option A → Option A
+or_else (Some a) b = Some a
+or_else None b = b
 
 -- what is there, else b
-abbrev pub value_or {ℓ} : {A : Type ℓ} → Option A → A → A
-value_or (some a) b = a
-value_or none b = b
+abbrev pub value_or : {A : Type 0} → Option A → A → A
+value_or (Some a) b = a
+value_or None b = b
 
 -- a where the test holds
-abbrev pub when_so {ℓ} : {A : Type ℓ} → Bool → A → Option A
-when_so true a = some a
-when_so false a = none
+abbrev pub when_so : {A : Type 0} → Bool → A → Option A
+when_so true a = Some a
+when_so false a = None

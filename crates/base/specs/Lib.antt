@@ -1,3 +1,4 @@
 pub mod Choice
 pub mod Tab
 pub mod Answer
+pub mod Number

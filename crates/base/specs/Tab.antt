@@ -1,6 +1,6 @@
 -- Lists, counts and searches given by an index: what the other definitions are said with.
 use Rattle.std.specs.Prelude.{if◌then◌else◌, ℕ, zero, suc, ◌+◌, Bool, true, ◌&&◌, List, [], ◌∷◌}
-use Rattle.std.proofs.Math.Option.{Option, none}
+use Rattle.std.specs.Prelude.{Option, None}
 use Rattle.base.specs.Choice.{or_else, when_so}
 
 -- f i, f (i + 1), .. : n of them
@@ -27,8 +27,8 @@ all zero t = true
 all (suc n) t = all n t && t n
 
 -- the first `some` among f 0 to f (n - 1)
-unfoldable pub first {ℓ} : {A : Type ℓ} → ℕ → (ℕ → Option A) → Option A
-first zero f = none
+unfoldable pub first : {A : Type 0} → ℕ → (ℕ → Option A) → Option A
+first zero f = None
 first (suc n) f = or_else (first n f) (f n)
 
 -- the least i below n that passes the test

@@ -2,7 +2,7 @@
 use Prim.Native.Nat.{ℕ, ◌+◌, ◌-◌, ◌*◌, ◌/◌, ◌%◌, ◌≤◌, ◌<◌}
 use mathlib.Core.Path.{◌≡◌, refl, sym, ap, ap₂, ◌∙◌}
 use mathlib.Core.List.{List}
-use mathlib.Core.Option.{Option, none, some}
+use Rattle.std.specs.Prelude.{Option, None, Some}
 use native.Mathlib.Omega.{arith}
 use borrow.Author.Tests.{eq-eqb, ne_eqb}
 use lib.Dec.{eqb}
@@ -52,15 +52,15 @@ looks_as e l = rw e l
 -- The loss, and what is let go. A frame of loss is never 0.
 
 abbrev Late : Option ℕ → Type 0
-Late l = (k : ℕ) → l ≡ some k → 4 ≤ k
+Late l = (k : ℕ) → l ≡ Some k → 4 ≤ k
 
 lost_is : (u f : ℕ) (l : Option ℕ) → Late l → f ≡ lost_at l → lost_at (later_by (16 * u) l) ≡ lost_by u f
-lost_is u f none h e = rw (eq-eqb f 0 e)
-lost_is u f (some k) h e = rw (ne_eqb f 0 (λ z. omega (arith, h k refl))) (ap (λ x. 16 * u + x) (sym e))
+lost_is u f None h e = rw (eq-eqb f 0 e)
+lost_is u f (Some k) h e = rw (ne_eqb f 0 (λ z. omega (arith, h k refl))) (ap (λ x. 16 * u + x) (sym e))
 
 gone_is : (n g f : ℕ) (l : Option ℕ) → Late l → f ≡ lost_at l → gone_of n g l ≡ gone_by n g f
-gone_is n g f none h e = rw (eq-eqb f 0 e)
-gone_is n g f (some k) h e = rw (ne_eqb f 0 (λ z. omega (arith, h k refl)))
+gone_is n g f None h e = rw (eq-eqb f 0 e)
+gone_is n g f (Some k) h e = rw (ne_eqb f 0 (λ z. omega (arith, h k refl)))
 
 pub gone_within : (n g f x : ℕ) → 512 * g ≤ n → x ≡ gone_by n g f → x ≤ n
 gone_within n g f x h e = rw e (if_both (λ y. y ≤ n) (eqb f 0) (omega arith) (omega arith))
@@ -69,8 +69,8 @@ lost_few : (s : List ℕ) (q h m : ℕ) → lost_at (loss_from s q h m) ≤ 16 *
 lost_few s q h m = go (loss_from s q h m) refl
   where
     go : (l : Option ℕ) → loss_from s q h m ≡ l → lost_at l ≤ 16 * m
-    go none e = omega arith
-    go (some f) e = omega (arith, (from_among s q h m f e).1)
+    go None e = omega arith
+    go (Some f) e = omega (arith, (from_among s q h m f e).1)
 
 -- the whole multiframes, in octets and in bits
 pub whole_is : (s : List ℕ) (q : ℕ) → whole s q ≡ (8 * length s - q) / 4096
@@ -173,7 +173,7 @@ nothing_gained c =
       wordbits = same c.wordbits i;
     }
 
-none_from : (s : List ℕ) (q h m : ℕ) → m ≤ h → loss_from s q h m ≡ none
+none_from : (s : List ℕ) (q h m : ℕ) → m ≤ h → loss_from s q h m ≡ None
 unfolding loss_from first
 none_from s q h m l = let z : m - h ≡ 0 = omega arith in rw z
 
@@ -214,8 +214,8 @@ kept_few s q h x gone b t e =
     )
   where
     fits : (l : Option ℕ) → length s ≤ gone_of (length s) (used_of l (whole s q)) l + 1024
-    fits none = omega arith
-    fits (some f) = omega arith
+    fits None = omega arith
+    fits (Some f) = omega arith
 
 -- what was tracked is little
 pub tracked_few : (s : List ℕ) (q h : ℕ) (x : Tracked) → Tracks s q h x
@@ -300,8 +300,8 @@ pub used_all : (s : List ℕ) (q h : ℕ) (x : Tracked) → Tracks s q h x → x
 used_all s q h x t z = t.its_used ∙ go (loss_from s q h (whole s q)) refl (sym t.its_lost ∙ z)
   where
     go : (l : Option ℕ) → loss_from s q h (whole s q) ≡ l → lost_at l ≡ 0 → used_of l (whole s q) ≡ whole s q
-    go none e k = refl
-    go (some f) e k = absurd (omega (arith, from_late s q h (whole s q) f e))
+    go None e k = refl
+    go (Some f) e k = absurd (omega (arith, from_late s q h (whole s q) f e))
 
 -- after one nothing is kept
 pub lost_keeps_none : (c : Line) (s : List ℕ) (q : ℕ) (x : Tracked) → q ≡ start_of c.found % 8 → Tracks s q (kept_of c.used) x

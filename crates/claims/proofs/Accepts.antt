@@ -4,7 +4,7 @@ use mathlib.Core.Path.{◌≡◌, refl, sym, ap}
 use mathlib.Core.Bool.{Bool, true, false, not, ◌&&◌, ◌||◌, true≢false, and-eq-true_iff}
 use mathlib.Core.List.{List}
 use mathlib.Core.Logic.{◌↔◌, ◌⊎◌, inl, inr}
-use mathlib.Core.Option.{Option, none, some}
+use Rattle.std.specs.Prelude.{Option, None, Some}
 use mathlib.Mathlib.Data.Bool.Basic.{or-eq-false-eq-eq-false-and-eq-false}
 use native.Mathlib.Decide.{dec_lt}
 use native.Mathlib.Omega.{arith}
@@ -75,10 +75,10 @@ read_is s a b = (there, λ t. back t (first_standing s) refl)
         }
 
     back : ToRead s a b → (o : Option Standing) → first_standing s ≡ o → reads.refusal s a b ≡ 0
-    back t (some w) e =
+    back t (Some w) e =
         laws.accepts s a b t.good w e
         (rw (le-ltb a (496 * used_in s) t.payload, le-ltb b (16 * used_in s) t.slot0))
-    back t none e = absurd ((none_stands s).0 e t.p t.k t.stands)
+    back t None e = absurd ((none_stands s).0 e t.p t.k t.stands)
 
 -- a place stands where neither number of the search applies
 pub stood : (f : Found) → eqb (number_of f) 3 ≡ false → eqb (number_of f) 15 ≡ false → (p : ℕ) × (k : ℕ) × (f ≡ At p k)
@@ -221,8 +221,8 @@ signals_is s a = (there, λ t. back t (first_standing s) refl)
         }
 
     back : ToHear s a → (o : Option Standing) → first_standing s ≡ o → signals.refusal s a ≡ 0
-    back t (some w) e = heard.placed_then s a (laws.placed_0 s t.good w e) false (le-ltb a (filled (slot16_in s)) t.room)
-    back t none e = absurd ((none_stands s).0 e t.p t.k t.stands)
+    back t (Some w) e = heard.placed_then s a (laws.placed_0 s t.good w e) false (le-ltb a (filled (slot16_in s)) t.room)
+    back t None e = absurd ((none_stands s).0 e t.p t.k t.stands)
 
 pub why_is : (s : List ℕ) (p : ℕ) → why_refusal s p ≡ 0 ↔ ToAsk s p
 why_is s p = (

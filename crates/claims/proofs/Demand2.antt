@@ -5,7 +5,7 @@ use mathlib.Core.Bool.{Bool, false, ◌||◌}
 use mathlib.Core.List.{List, ◌++◌}
 use mathlib.Core.Logic.Iff
 use mathlib.Core.Logic.{◌↔◌, ◌⊎◌, ⊎_elim, inl, inr}
-use mathlib.Core.Option.{Option, none, some}
+use Rattle.std.specs.Prelude.{Option, None, Some}
 use native.Mathlib.Omega.{arith}
 use borrow.Author.Tests.{le-ltb}
 use lib.Dec.{ltb}
@@ -165,7 +165,7 @@ module _ (p o : List ℕ) (c n : ℕ) (g : Inputs p o c n) where
       whole_n : reading.whole_in line ≡ n
       whole_n = ap (whole line) start ∙ unbroken.all_whole line n framed
 
-      no_loss : reading.loss_in line ≡ none
+      no_loss : reading.loss_in line ≡ None
       no_loss = ap₂ (loss line) start whole_n ∙ unbroken.never_lost line n framed
 
       pub used_n : reading.used_in line ≡ n
@@ -274,13 +274,13 @@ module _ (s payload slot0 : List ℕ) (r : Reading) (payload' slot0' : List ℕ)
     none_so = (⊎_elim (λ e p k w. no_basic.0 e p w.room w.basic) (λ e. (basic_only.0 e).1), λ n. back n (first_basic s) refl)
       where
         back : ((p k : ℕ) → Stands s p k → ⊥) → (o : Option ℕ) → first_basic s ≡ o → (r.number ≡ 3) ⊎ (r.number ≡ 15)
-        back n none e = inl (no_basic.1 ((none_basic s).0 e))
-        back n (some p) e = inr (basic_only.1 ((p, (basic_first s p).0 e), n))
+        back n None e = inl (no_basic.1 ((none_basic s).0 e))
+        back n (Some p) e = inr (basic_only.1 ((p, (basic_first s p).0 e), n))
 
     one_of_three : OneOf (r.number ≡ 3) (r.number ≡ 15) ((p : ℕ) × (k : ℕ) × Stands s p k)
     one_of_three =
         record {
-          some = by (found_in s) refl;
+          Some = by (found_in s) refl;
           not_ab = λ e f. omega arith;
           not_ac = λ e w. none_so.0 (inl e) w.0 w.1 w.2;
           not_bc = λ e w. none_so.0 (inr e) w.0 w.1 w.2;
@@ -295,7 +295,7 @@ pub demand_2 : Demand2
 demand_2 =
     record {
       reads = reads_so;
-      none = λ s payload slot0 r payload' slot0' good h. none_so s payload slot0 r payload' slot0' h good;
+      None = λ s payload slot0 r payload' slot0' good h. none_so s payload slot0 r payload' slot0' h good;
       none_at_all = λ s payload slot0 r payload' slot0' good h.
           Iff.trans (none_so s payload slot0 r payload' slot0' h good) (none_at_all s);
       no_basic = λ s payload slot0 r payload' slot0' good h. no_basic s payload slot0 r payload' slot0' h good;

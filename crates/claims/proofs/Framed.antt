@@ -3,7 +3,7 @@ use Prim.Native.Nat.{ℕ, ◌+◌, ◌*◌, ◌≤◌, ◌<◌}
 use mathlib.Core.Path.{◌≡◌, refl, ap, ap₂, ◌∙◌}
 use mathlib.Core.Bool.{Bool, true, false, ◌&&◌, not, cond}
 use mathlib.Core.List.{List}
-use mathlib.Core.Option.{Option, none, some}
+use Rattle.std.specs.Prelude.{Option, None, Some}
 use native.Mathlib.Nat.{zero-add}
 use native.Mathlib.Omega.{arith}
 use borrow.Author.Tests.{eqb-true, eq-eqb, le-leb}
@@ -32,7 +32,7 @@ pub record Framed (s : List ℕ) (n : ℕ) : Type 0 where
 all_three : (a b c : Bool) → a ≡ true → b ≡ true → c ≡ true → a && (b && c) ≡ true
 all_three a b c p q r = rw (p, q, r)
 
-stood : (a b : Bool) (o : Option ℕ) → a ≡ true → b ≡ true → o ≡ some 0 → cond (a && b) (with_place 0 o) none ≡ some (record {
+stood : (a b : Bool) (o : Option ℕ) → a ≡ true → b ≡ true → o ≡ Some 0 → cond (a && b) (with_place 0 o) None ≡ Some (record {
   place =
       0;
   k = 0;
@@ -62,7 +62,7 @@ module _ (s : List ℕ) (n : ℕ) (h : Framed s n) where
       (h.word 0 (omega arith)) (eq-eqb (bit_at s 257) 1 (h.bit_2 0 (omega arith))) (h.word 1 (omega arith))
 
   -- place 0 stands, with k 0
-  pub stands_at_once : 4 ≤ n → first_standing s ≡ some (record { place = 0; k = 0 })
+  pub stands_at_once : 4 ≤ n → first_standing s ≡ Some (record { place = 0; k = 0 })
   unfolding first_standing standing first
   stands_at_once four =
       let l = h.long in
@@ -78,7 +78,7 @@ module _ (s : List ℕ) (n : ℕ) (h : Framed s n) where
   unfolding wrong
   never_wrong i l = ap not (h.word i l)
 
-  pub never_lost : loss s 0 n ≡ none
+  pub never_lost : loss s 0 n ≡ None
   unfolding loss word_loss bit2_loss
   never_lost =
       ap₂ earlier

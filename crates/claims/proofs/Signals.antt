@@ -4,7 +4,7 @@ use mathlib.Core.Path.{◌≡◌, refl, sym, ap, ap₂, subst, ◌∙◌}
 use mathlib.Core.Bool.{Bool, true, false, ◌&&◌, not, true≢false, and-eq-true_iff}
 use mathlib.Core.List.{List, ◌++◌}
 use mathlib.Core.Logic.{◌↔◌}
-use mathlib.Core.Option.{Option, none, some}
+use Rattle.std.specs.Prelude.{Option, None, Some}
 use native.Mathlib.Omega.{arith}
 use borrow.Author.Tests.{eq-eqb, ne_eqb, eqb-true, eqb-false, not-true}
 use lib.Dec.{eqb, lit≤}
@@ -87,9 +87,9 @@ module _ (t : List ℕ) where
   )
     where
       there : (o : Option ℕ) → least n (aligns t) ≡ o → value_or o 0 ≡ f → TakenFirst t n f
-      there none e z = absurd (omega arith)
-      there (some i) e z =
-          let m = (least_some n (aligns t) f).0 (e ∙ ap some z) in
+      there None e z = absurd (omega arith)
+      there (Some i) e z =
+          let m = (least_some n (aligns t) f).0 (e ∙ ap Some z) in
           record { here = taken_there f m.passes; among = m.below; earlier = λ j k. never_taken j (m.before j k) }
 
   never : (n : ℕ) → first_in t n ≡ 0 ↔ ((f : ℕ) → f < n → Taken t f → ⊥)

@@ -2,7 +2,7 @@
 use Prim.Native.Nat.{ℕ, suc, ◌+◌, ◌-◌, ◌*◌, ◌/◌, ◌%◌, ◌≤◌, ◌<◌}
 use mathlib.Core.Path.{◌≡◌, sym, ap, ap₂, ◌∙◌}
 use mathlib.Core.List.{List, ◌++◌}
-use mathlib.Core.Option.{some}
+use Rattle.std.specs.Prelude.{Some}
 use native.Mathlib.Omega.{arith}
 use borrow.Author.Tests.{eqb-true, le-ltb}
 use lib.ListN.{length, get_or, take, drop}
@@ -60,7 +60,7 @@ module _ {p l : List ℕ} {c n : ℕ} (g : Inputs p l c n) where
 
     -- read again
     module _ (two : 2 ≤ n) (few : n ≤ 14) where
-      first : first_standing line ≡ some 0
+      first : first_standing line ≡ Some 0
       first =
           (first_stands line 0).1 (record {
             stands = record {

@@ -4,7 +4,7 @@ use mathlib.Core.Path.{◌≡◌, refl, sym, ap, ◌∙◌}
 use mathlib.Core.Bool.{Bool, true, false, cond, not, true≢false}
 use mathlib.Core.List.{List}
 use mathlib.Core.Logic.{◌↔◌}
-use mathlib.Core.Option.{Option, none, some}
+use Rattle.std.specs.Prelude.{Option, None, Some}
 use mathlib.Mathlib.Data.Bool.Basic.{eq-false_of_not-eq-true}
 use native.Mathlib.Omega.{arith}
 use borrow.Author.Tests.{eqb-true, eq-eqb}
@@ -57,8 +57,8 @@ module _ (s : List ℕ) (q : ℕ) where
     where
       there : word_at s q ≡ true → field s (q + 1) 7 ≡ 27
       there e =
-          let none = sum_zero 7 (λ i. cond (wrong_bit s q i) 1 0) (eqb-true _ _ e) in
-          spelt_agree 7 (λ i. bit_at s (q + 1 + i)) (λ i. get_or alignment i 0) (λ i h. right_bit _ _ (none i h))
+          let None = sum_zero 7 (λ i. cond (wrong_bit s q i) 1 0) (eqb-true _ _ e) in
+          spelt_agree 7 (λ i. bit_at s (q + 1 + i)) (λ i. get_or alignment i 0) (λ i h. right_bit _ _ (None i h))
 
       back : field s (q + 1) 7 ≡ 27 → word_at s q ≡ true
       back e = eq-eqb _ _ (sym wrong_ones ∙ ap (λ x. ones (bit_xor x 27)) e ∙ refl)
@@ -78,8 +78,8 @@ module _ (s : List ℕ) (q : ℕ) where
   first_wrong_lem e = go (least 7 (wrong_bit s q)) refl
     where
       go : (o : Option ℕ) → least 7 (wrong_bit s q) ≡ o → (i : ℕ) × Least 7 (wrong_bit s q) i × (q + 1 + value_or o 7 ≡ q + 1 + i)
-      go (some i) h = (i, (least_some 7 (wrong_bit s q) i).0 h, refl)
-      go none h =
+      go (Some i) h = (i, (least_some 7 (wrong_bit s q) i).0 h, refl)
+      go None h =
           let right = least_none 7 (wrong_bit s q) h in
           let zeros = sum_none 7 (λ i. cond (wrong_bit s q i) 1 0) (λ i l. ap (λ b. cond b 1 0) (right i l)) in
           absurd (true≢false (sym (eq-eqb _ _ zeros) ∙ e))

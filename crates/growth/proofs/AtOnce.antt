@@ -2,7 +2,7 @@
 use Prim.Native.Nat.{ℕ, ◌+◌, ◌-◌, ◌*◌, ◌/◌, ◌%◌, ◌≤◌, ◌<◌}
 use mathlib.Core.Path.{◌≡◌, refl, sym, ap, subst, ◌∙◌}
 use mathlib.Core.List.{List, []}
-use mathlib.Core.Option.{Option, none, some}
+use Rattle.std.specs.Prelude.{Option, None, Some}
 use native.Mathlib.Nat.{zero-add}
 use native.Mathlib.Omega.{arith}
 use lib.ListN.{length, drop, length-drop}
@@ -77,8 +77,8 @@ module _ (s : List ℕ) (q : ℕ) (h : q ≤ 8 * length s) where
       sym (k.seen s part (8 * (q / 8)) n (sees n) q a (g - 0) (omega arith) (omega arith)) ∙ ap (Y s q) z
 
   lost_part : (l : Option ℕ) → lost_at (later_by 0 l) ≡ lost_at l
-  lost_part none = refl
-  lost_part (some f) = zero-add f
+  lost_part None = refl
+  lost_part (Some f) = zero-add f
 
   -- read from the start of its first multiframe on
   pub read_part : (before : ℕ) (f : Found) → start_of f % 8 ≡ q % 8 → AtOnce s q (read_from (unread before f) part)

@@ -3,7 +3,7 @@
 use Prim.Native.Nat.{ℕ, zero, suc, ◌+◌, ◌-◌, ◌*◌, ◌/◌, ◌%◌, ◌≤◌, ◌<◌}
 use mathlib.Core.Path.{◌≡◌, refl}
 use mathlib.Core.List.{List}
-use mathlib.Core.Option.{Option, none, some}
+use Rattle.std.specs.Prelude.{Option, None, Some}
 use native.Mathlib.Omega.{arith}
 use lib.ListN.{length, drop, length-drop}
 use Rattle.align.specs.Place.{found_in, start_of, first_standing, first_basic}
@@ -30,8 +30,8 @@ pub record Bounded (n : ℕ) (x : Grown) : Type 0 where
 gone_fits : (s : List ℕ) (q : ℕ) → q < 8 → (l : Option ℕ)
     → (gone_of (length s) (used_of l (whole s q)) l ≤ length s) × (length s ≤ gone_of (length s) (used_of l (whole s q)) l + 1024)
 unfolding whole
-gone_fits s q h none = (omega arith, omega arith)
-gone_fits s q h (some f) = (omega arith, omega arith)
+gone_fits s q h None = (omega arith, omega arith)
+gone_fits s q h (Some f) = (omega arith, omega arith)
 
 read_short : (c : Line) (s : List ℕ) → length (read_from c s).window ≤ 1024
 unfolding read_on
@@ -110,8 +110,8 @@ used_few s q h = omega (arith, used_upto s q h (whole s q))
 lost_few : (s : List ℕ) (q h d u : ℕ) → d ≤ u → (l : Option ℕ) → loss_from s q h (whole s q) ≡ l
     → lost_at (later_by (16 * d) l) ≤ 16 * (u + length s)
 unfolding whole
-lost_few s q h d u k none e = omega arith
-lost_few s q h d u k (some f) e = omega (arith, (from_among s q h (whole s q) f e).1)
+lost_few s q h d u k None e = omega arith
+lost_few s q h d u k (Some f) e = omega (arith, (from_among s q h (whole s q) f e).1)
 
 -- the start apart: it may be that of a place in the image
 read_grows : (c : Line) (s : List ℕ) (n N : ℕ) → n + length s ≡ N → start_of c.found ≤ 1024 * N → c.before ≤ n → c.used ≤ n

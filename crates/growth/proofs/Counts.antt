@@ -4,7 +4,7 @@ use Prim.Native.Nat.{ℕ, zero, suc, ◌+◌, ◌-◌, ◌*◌, ◌/◌, ◌%◌
 use mathlib.Core.Path.{◌≡◌, refl, ap, ap₂, ◌∙◌}
 use mathlib.Core.Bool.{Bool, true, false, not}
 use mathlib.Core.List.{List, [], ◌++◌}
-use mathlib.Core.Option.{Option, none, some}
+use Rattle.std.specs.Prelude.{Option, None, Some}
 use native.Mathlib.Omega.{arith}
 use borrow.Author.Tests.{leb-true, leb-false, le-leb, lt-leb}
 use lib.Dec.{eqb, leb}
@@ -41,8 +41,8 @@ first_later_by d zero f = refl
 first_later_by d (suc n) f = ap (λ o. or_else o (later_by d (f n))) (first_later_by d n f) ∙ go (first n f) (f n)
   where
     go : (x y : Option ℕ) → or_else (later_by d x) (later_by d y) ≡ later_by d (or_else x y)
-    go none y = refl
-    go (some i) y = refl
+    go None y = refl
+    go (Some i) y = refl
 
 pub when_later_by : (d : ℕ) (b : Bool) (i : ℕ) → when_so b (d + i) ≡ later_by d (when_so b i)
 when_later_by d true i = refl
@@ -56,11 +56,11 @@ leb_later d f g = go (leb f g) refl
     go false e = let l = leb-false f g e in lt-leb (d + f) (d + g) (omega arith)
 
 pub earlier_later_by : (d : ℕ) (x y : Option ℕ) → earlier (later_by d x) (later_by d y) ≡ later_by d (earlier x y)
-earlier_later_by d none y = refl
-earlier_later_by d (some f) none = refl
-earlier_later_by d (some f) (some g) = ap (λ b. some (if b then d + f else d + g)) (leb_later d f g) ∙ go (leb f g)
+earlier_later_by d None y = refl
+earlier_later_by d (Some f) None = refl
+earlier_later_by d (Some f) (Some g) = ap (λ b. Some (if b then d + f else d + g)) (leb_later d f g) ∙ go (leb f g)
   where
-    go : (b : Bool) → some (if b then d + f else d + g) ≡ some (d + (if b then f else g))
+    go : (b : Bool) → Some (if b then d + f else d + g) ≡ Some (d + (if b then f else g))
     go true = refl
     go false = refl
 
@@ -221,7 +221,7 @@ whole_later s q v h = rw (length-drop (512 * v) s) (go (length s) h)
         omega arith
 
 -- the loss of all of them stays where it is
-pub loss_kept : (s b : List ℕ) (q h f : ℕ) → loss_from s q h (whole s q) ≡ some f → loss_from (s ++ b) q h (whole (s ++ b) q) ≡ some f
+pub loss_kept : (s b : List ℕ) (q h f : ℕ) → loss_from s q h (whole s q) ≡ Some f → loss_from (s ++ b) q h (whole (s ++ b) q) ≡ Some f
 loss_kept s b q h f e =
     let m = whole s q in
     let some-there : m - 1 + 1 ≡ m = omega (arith, (from_among s q h m f e).1) in
@@ -237,7 +237,7 @@ disagreeing_adds s p a b =
 
 -- A count over multiframes: it is 0 of none, is seen in a part, and adds up
 pub record Counts (X : List ℕ → ℕ → ℕ → ℕ) : Type 0 where
-  pub none : (s : List ℕ) (q : ℕ) → X s q 0 ≡ 0
+  pub None : (s : List ℕ) (q : ℕ) → X s q 0 ≡ 0
   pub seen : (s t : List ℕ) (d n : ℕ) → Sees s t d n → (a q g : ℕ) → a ≡ d + q → q + 4096 * g ≤ n → X s a g ≡ X t q g
   pub adds : (s : List ℕ) (q g n : ℕ) → X s q (g + n) ≡ X s q g + X s (q + 4096 * g) n
 
@@ -245,7 +245,7 @@ pub words_count : Counts word_errors
 unfolding word_errors sum
 words_count =
     record {
-      none = λ s q. refl;
+      None = λ s q. refl;
       seen = λ s t d n h a q g e l.
           sum_ext (8 * g) (λ i. if wrong s a i then 1 else 0) (λ i. if wrong t q i then 1 else 0)
           (λ i j. ap (λ b. if b then 1 else 0) (wrong_seen s t d n h a q i e (omega arith)));
@@ -260,7 +260,7 @@ pub bits_count : Counts word_bits
 unfolding word_bits sum
 bits_count =
     record {
-      none = λ s q. refl;
+      None = λ s q. refl;
       seen = λ s t d n h a q g e l.
           sum_ext (8 * g) (wrong_bits_of s a) (wrong_bits_of t q) (λ i j. wrong_bits_seen s t d n h a q i e (omega arith));
       adds = λ s q g n.
@@ -273,7 +273,7 @@ pub far_end_count : Counts far_end
 unfolding far_end sum
 far_end_count =
     record {
-      none = λ s q. refl;
+      None = λ s q. refl;
       seen = λ s t d n h a q g e l. sum_ext g (zeros_e s a) (zeros_e t q) (λ m j. zeros_seen s t d n h a q m e (omega arith));
       adds = λ s q g n. sum_later g n (zeros_e s q) (zeros_e s (q + 4096 * g)) (zeros_later s q g);
     }

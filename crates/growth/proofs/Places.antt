@@ -4,7 +4,7 @@ use Prim.Native.Nat.{ℕ, ◌+◌, ◌-◌, ◌*◌, ◌≤◌, ◌<◌}
 use mathlib.Core.Path.{◌≡◌, refl, sym, ap, ◌∙◌}
 use mathlib.Core.List.{List, ◌++◌}
 use mathlib.Core.Logic.{◌↔◌}
-use mathlib.Core.Option.{Option, none, some}
+use Rattle.std.specs.Prelude.{Option, None, Some}
 use native.Mathlib.Decide.{dec_lt}
 use native.Mathlib.Omega.{arith}
 use lib.ListN.{length, drop, length-append, length-drop}
@@ -19,8 +19,8 @@ use Rattle.growth.proofs.Sees.{front_sees, back_sees, basic_seen, stands_seen}
 
 -- a place counted from d places earlier
 abbrev pub standing_by : ℕ → Option Standing → Option Standing
-standing_by d none = none
-standing_by d (some w) = some (record { place = d + w.place; k = w.k })
+standing_by d None = None
+standing_by d (Some w) = Some (record { place = d + w.place; k = w.k })
 
 -- A property of places that looks only at the 16,384 bits from the place on: in a longer line and in one without its
 -- first octets it is the same.
@@ -85,7 +85,7 @@ module _ (s t : List ℕ) where
   pub at_kept : (p k : ℕ) → found_in s ≡ At p k → found_in (s ++ t) ≡ At p k
   at_kept p k e = (finds_at (s ++ t) p k).1 (first_kept p k ((finds_at s p k).0 e))
 
-  pub basic_kept : (p : ℕ) → first_basic s ≡ some p → first_basic (s ++ t) ≡ some p
+  pub basic_kept : (p : ℕ) → first_basic s ≡ Some p → first_basic (s ++ t) ≡ Some p
   basic_kept p e =
       let f = (basic_first s p).0 e in
       let w = (basic_local.kept s t p f.room).1 (f.room, f.basic) in
@@ -106,8 +106,8 @@ module _ (s : List ℕ) (c : ℕ) (h : (p k : ℕ) → p < 8 * c → Stands s p 
       inside p k = in_rest (λ s p. Stands s p k) (stands_local k) s c (λ p. h p k) p
 
       go : (o : Option Standing) → first_standing (drop c s) ≡ o → first_standing s ≡ standing_by (8 * c) o
-      go none e = (none_stands s).1 (λ p k g. (none_stands (drop c s)).0 e (p - 8 * c) k (inside p k g))
-      go (some w) e =
+      go None e = (none_stands s).1 (λ p k g. (none_stands (drop c s)).0 e (p - 8 * c) k (inside p k g))
+      go (Some w) e =
           let f = (first_stands (drop c s) w.place w.k).0 e in
           (first_stands s (8 * c + w.place) w.k).1 (record {
             stands = in_whole (λ s p. Stands s p w.k) (stands_local w.k) s c (λ p. h p w.k) w.place f.stands;
@@ -124,9 +124,9 @@ module _ (s : List ℕ) (c : ℕ) (h : (p : ℕ) → p < 8 * c → BasicHere s p
       inside = in_rest BasicHere basic_local s c h
 
       go : (o : Option ℕ) → first_basic (drop c s) ≡ o → first_basic s ≡ later_by (8 * c) o
-      go none e =
+      go None e =
           (none_basic s).1 (λ p r b. let g = inside p (r, b) in (none_basic (drop c s)).0 e (p - 8 * c) g.0 g.1)
-      go (some p) e =
+      go (Some p) e =
           let f = (basic_first (drop c s) p).0 e in
           let w = in_whole BasicHere basic_local s c h p (f.room, f.basic) in
           (basic_first s (8 * c + p)).1 (record {
@@ -150,12 +150,12 @@ module _ (s t : List ℕ) where
   is_rest : drop gone (s ++ t) ≡ goes_on
   is_rest = drop-append-le gone s t (omega arith)
 
-  pub first_goes_on : first_standing s ≡ none → first_standing (s ++ t) ≡ standing_by (8 * gone) (first_standing goes_on)
+  pub first_goes_on : first_standing s ≡ None → first_standing (s ++ t) ≡ standing_by (8 * gone) (first_standing goes_on)
   first_goes_on e =
       first_later (s ++ t) gone (λ p k l g. (none_stands s).0 e p k ((stands_kept s t p k (omega arith)).0 g))
       ∙ ap (λ x. standing_by (8 * gone) (first_standing x)) is_rest
 
-  pub basic_goes_on : first_basic s ≡ none → first_basic (s ++ t) ≡ later_by (8 * gone) (first_basic goes_on)
+  pub basic_goes_on : first_basic s ≡ None → first_basic (s ++ t) ≡ later_by (8 * gone) (first_basic goes_on)
   basic_goes_on e =
       basic_later (s ++ t) gone (λ p l g. let b = (basic_local.kept s t p (omega arith)).0 g in (none_basic s).0 e p b.0 b.1)
       ∙ ap (λ x. later_by (8 * gone) (first_basic x)) is_rest
@@ -166,7 +166,7 @@ found_on d known (At p k) = At (d + p) k
 found_on d known (BasicAt p) = noted known (BasicAt (d + p))
 found_on d known Nothing = known
 
-pub found_goes_on : (s t : List ℕ) → first_standing s ≡ none
+pub found_goes_on : (s t : List ℕ) → first_standing s ≡ None
     → found_in (s ++ t) ≡ found_on (8 * (length s - 2048)) (found_in s) (found_in (drop (length s - 2048) s ++ t))
 found_goes_on s t e =
     ap (λ o. found o (first_basic (s ++ t))) (first_goes_on s t e)
@@ -180,22 +180,22 @@ found_goes_on s t e =
     rest = drop (length s - 2048) s ++ t
 
     later : (o : Option Standing) (b : Option ℕ) → found (standing_by d o) (later_by d b) ≡ found_on d Nothing (found o b)
-    later none none = refl
-    later none (some p) = refl
-    later (some w) b = refl
+    later None None = refl
+    later None (Some p) = refl
+    later (Some w) b = refl
 
-    known : (o : Option Standing) (p : ℕ) (b : Option ℕ) → found (standing_by d o) (some p) ≡ found_on d (BasicAt p) (found o b)
-    known none p none = refl
-    known none p (some q) = refl
-    known (some w) p b = refl
+    known : (o : Option Standing) (p : ℕ) (b : Option ℕ) → found (standing_by d o) (Some p) ≡ found_on d (BasicAt p) (found o b)
+    known None p None = refl
+    known None p (Some q) = refl
+    known (Some w) p b = refl
 
     by : (b : Option ℕ) → first_basic s ≡ b
-        → found (standing_by d (first_standing rest)) (first_basic (s ++ t)) ≡ found_on d (found none (first_basic s)) (found_in rest)
-    by none k =
+        → found (standing_by d (first_standing rest)) (first_basic (s ++ t)) ≡ found_on d (found None (first_basic s)) (found_in rest)
+    by None k =
         ap (found (standing_by d (first_standing rest))) (basic_goes_on s t k)
         ∙ later (first_standing rest) (first_basic rest)
-        ∙ sym (ap (λ b. found_on d (found none b) (found_in rest)) k)
-    by (some p) k =
+        ∙ sym (ap (λ b. found_on d (found None b) (found_in rest)) k)
+    by (Some p) k =
         ap (found (standing_by d (first_standing rest))) (basic_kept s t p k)
         ∙ known (first_standing rest) p (first_basic rest)
-        ∙ sym (ap (λ b. found_on d (found none b) (found_in rest)) k)
+        ∙ sym (ap (λ b. found_on d (found None b) (found_in rest)) k)

@@ -3,7 +3,7 @@
 use Prim.Native.Nat.{ℕ, zero, suc, ◌+◌, ◌-◌, ◌*◌, ◌/◌, ◌%◌, ◌≤◌, ◌<◌}
 use mathlib.Core.Path.{◌≡◌, refl, sym, ap, ap₂, ◌∙◌}
 use mathlib.Core.List.{List, [], ◌++◌, append-nil}
-use mathlib.Core.Option.{Option, none, some}
+use Rattle.std.specs.Prelude.{Option, None, Some}
 use native.Mathlib.Omega.{arith}
 use lib.ListN.{length, drop, length-append, length-drop}
 use lib.Seq.{drop-append-le, drop-drop, drop-length}
@@ -89,14 +89,14 @@ few_blocks q g h m n a b d e =
     let x : compared h + (compared g - compared h) + 1 ≤ 2 * m = omega arith in
     omega arith
 
-cut_lost : (c : Line) (p k : ℕ) → c.found ≡ At p k → (s b : List ℕ) (q h f : ℕ) → h ≤ 1 → loss_from s q h (whole s q) ≡ some f
-    → read_on c (s ++ b) q h (some f) (f / 16)
-    ≡ after (read_on c s q h (some f) (f / 16)) (grown (read_on c s q h (some f) (f / 16)).line ((read_on c s q h (some f) (f / 16)).window ++ b))
+cut_lost : (c : Line) (p k : ℕ) → c.found ≡ At p k → (s b : List ℕ) (q h f : ℕ) → h ≤ 1 → loss_from s q h (whole s q) ≡ Some f
+    → read_on c (s ++ b) q h (Some f) (f / 16)
+    ≡ after (read_on c s q h (Some f) (f / 16)) (grown (read_on c s q h (Some f) (f / 16)).line ((read_on c s q h (Some f) (f / 16)).window ++ b))
 unfolding read_on
 cut_lost c p k at s b q h f few e =
     let m = whole s q in
     let g = f / 16 in
-    let x = read_on c s q h (some f) g in
+    let x = read_on c s q h (Some f) g in
     let l : f < 16 * m = (from_among s q h m f e).1 in
     let there : q + 4096 * (m - 1 + 1) ≤ 8 * length s = whole_there s q (m - 1) (omega arith) in
     let fits : q + 4096 * m ≤ 8 * length s = omega arith in
@@ -112,7 +112,7 @@ cut_lost c p k at s b q h f few e =
     let n = compared g - compared h in
     let late : 0 < x.line.lost = omega (arith, from_late s q h m f e) in
     let z : length (drop (length s) s ++ b) ≡ length b = ap (λ y. length (y ++ b)) (drop-length s) in
-    same (read_on c (s ++ b) q h (some f) g) (after x (passed x.line (x.window ++ b)))
+    same (read_on c (s ++ b) q h (Some f) g) (after x (passed x.line (x.window ++ b)))
     (omega (arith, length-append s b)) refl refl refl
     (num word_errors words_count c.words)
     (ap (λ y. c.errored + y) (disagreeing_seen (s ++ b) s 0 (8 * length s) front i i n (omega arith) few₂))
@@ -127,12 +127,12 @@ cut_lost c p k at s b q h f few e =
 
 cut_short : (c : Line) (p k : ℕ) → c.found ≡ At p k → (s b : List ℕ) (q : ℕ)
     → read_from c (s ++ b)
-    ≡ after (read_on c s q (kept_of c.used) none 0)
-    (grown (read_on c s q (kept_of c.used) none 0).line ((read_on c s q (kept_of c.used) none 0).window ++ b))
+    ≡ after (read_on c s q (kept_of c.used) None 0)
+    (grown (read_on c s q (kept_of c.used) None 0).line ((read_on c s q (kept_of c.used) None 0).window ++ b))
 unfolding read_on
 cut_short c p k at s b q =
     let h = kept_of c.used in
-    let x = read_on c s q h none 0 in
+    let x = read_on c s q h None 0 in
     let r = q + 4096 * h in
     let i = q + 2048 * compared h in
     let z : 0 - h ≡ 0 = omega arith in
@@ -232,22 +232,22 @@ module _ (s b : List ℕ) (q h v n : ℕ) (few : h ≤ 1) (fits : q + 4096 * (v 
   -- octets let go, of the whole and of the second part
   gone_cut : (l : Option ℕ)
       → gone_of (length (s ++ b)) (v + (1 + n)) (later_by (16 * v) l) ≡ 512 * v + gone_of (length later_part) (1 + n) l
-  gone_cut none = omega arith
-  gone_cut (some f) = omega (arith, length-drop (512 * v) (s ++ b), length-append s b)
+  gone_cut None = omega arith
+  gone_cut (Some f) = omega (arith, length-drop (512 * v) (s ++ b), length-append s b)
 
   lost_cut : (u : ℕ) → h ≤ u → (l : Option ℕ)
       → lost_at (later_by (16 * (u - h)) (later_by (16 * v) l)) ≡ lost_at (later_by (16 * (u + (v + 1 - h) - 1)) l)
-  lost_cut u had none = refl
-  lost_cut u had (some f) = omega arith
+  lost_cut u had None = refl
+  lost_cut u had (Some f) = omega arith
 
   glue : (c : Line) → h ≤ c.used → (l : Option ℕ)
       → read_on c (s ++ b) q h (later_by (16 * v) l) (v + (1 + n))
-      ≡ after (read_on c s q h none (v + 1)) (read_on (read_on c s q h none (v + 1)).line later_part q 1 l (1 + n))
+      ≡ after (read_on c s q h None (v + 1)) (read_on (read_on c s q h None (v + 1)).line later_part q 1 l (1 + n))
   unfolding read_on
   glue c had l =
       same
       (read_on c (s ++ b) q h (later_by (16 * v) l) (v + (1 + n)))
-      (after (read_on c s q h none (v + 1)) (read_on (read_on c s q h none (v + 1)).line later_part q 1 l (1 + n)))
+      (after (read_on c s q h None (v + 1)) (read_on (read_on c s q h None (v + 1)).line later_part q 1 l (1 + n)))
       (omega (arith, gone_cut l)) refl (omega arith) (lost_cut c.used had l)
       (num_cut word_errors words_count c.words)
       (blocks_cut c.errored)
@@ -258,8 +258,8 @@ module _ (s b : List ℕ) (q h v n : ℕ) (few : h ≤ 1) (fits : q + 4096 * (v 
       (out_cut payload_of 496 payload_leaves) (out_cut slot0_of 16 slot0_leaves)
 
 used_later : (v m : ℕ) (l : Option ℕ) → used_of (later_by (16 * v) l) (v + m) ≡ v + used_of l m
-used_later v m none = refl
-used_later v m (some f) = omega arith
+used_later v m None = refl
+used_later v m (Some f) = omega arith
 
 one_more : (x : ℕ) → 1 ≤ x → x ≡ 1 + (x - 1)
 one_more x h = omega arith
@@ -273,18 +273,18 @@ kept_one : (u v : ℕ) → kept_of (u + (v + 1 - kept_of u)) ≡ 1
 kept_one u v = omega arith
 
 cut_whole : (c : Line) (p k : ℕ) → c.found ≡ At p k → (s b : List ℕ) (v : ℕ)
-    → whole s (start_of c.found % 8) ≡ v + 1 → loss_from s (start_of c.found % 8) (kept_of c.used) (v + 1) ≡ none
+    → whole s (start_of c.found % 8) ≡ v + 1 → loss_from s (start_of c.found % 8) (kept_of c.used) (v + 1) ≡ None
     → read_from c (s ++ b)
-    ≡ after (read_on c s (start_of c.found % 8) (kept_of c.used) none (v + 1))
-    (grown (read_on c s (start_of c.found % 8) (kept_of c.used) none (v + 1)).line
-    ((read_on c s (start_of c.found % 8) (kept_of c.used) none (v + 1)).window ++ b))
+    ≡ after (read_on c s (start_of c.found % 8) (kept_of c.used) None (v + 1))
+    (grown (read_on c s (start_of c.found % 8) (kept_of c.used) None (v + 1)).line
+    ((read_on c s (start_of c.found % 8) (kept_of c.used) None (v + 1)).window ++ b))
 unfolding read_on
 cut_whole c p k at s b v e f =
     let q = start_of c.found % 8 in
     let h = kept_of c.used in
     let S = s ++ b in
     let T = drop (512 * v) S in
-    let x = read_on c s q h none (v + 1) in
+    let x = read_on c s q h None (v + 1) in
     let m = whole T q in
     let l = loss_from T q 1 m in
     let long = length-append s b in
@@ -294,7 +294,7 @@ cut_whole c p k at s b v e f =
     let had : h ≤ c.used = omega arith in
     let ewhole : whole S q ≡ v + m = whole_later S q v (omega arith) in
     let enough : v + 1 ≤ whole S q = there_whole S q (v + 1) (omega arith) in
-    let f₁ : loss_from S q h (v + 1) ≡ none = loss_seen S s 0 (8 * length s) (front_sees s b) q q h (v + 1) (omega arith) fits ∙ f in
+    let f₁ : loss_from S q h (v + 1) ≡ None = loss_seen S s 0 (8 * length s) (front_sees s b) q q h (v + 1) (omega arith) fits ∙ f in
     let r : loss_from S (q + 4096 * v) 1 m ≡ l =
     loss_seen S T (8 * (512 * v)) (q + 4096 * m) (back_sees S (512 * v) (q + 4096 * m)) (q + 4096 * v) q 1 m (omega arith) (omega arith) in
     let eloss : loss_from S q h (whole S q) ≡ later_by (16 * v) l =
@@ -335,11 +335,11 @@ module _ (c : Line) (p k : ℕ) (at : c.found ≡ At p k) (s b : List ℕ) where
     where
       by : (o : Option ℕ) → loss_from s bit left (whole s bit) ≡ o → (m : ℕ) → whole s bit ≡ m
           → read_from c (s ++ b) ≡ both (loss_from s bit left (whole s bit)) (whole s bit)
-      by (some f) e m w =
+      by (Some f) e m w =
           ap (λ o. read_on c (s ++ b) bit left o (used_of o (whole (s ++ b) bit))) (loss_kept s b bit left f e)
           ∙ cut_lost c p k at s b bit left f (omega arith) e
           ∙ sym (ap (λ o. both o (whole s bit)) e)
-      by none e zero w = cut_short c p k at s b bit ∙ sym (ap₂ both e w)
-      by none e (suc v) w =
+      by None e zero w = cut_short c p k at s b bit ∙ sym (ap₂ both e w)
+      by None e (suc v) w =
           let z : whole s bit ≡ v + 1 = omega arith in
           cut_whole c p k at s b v z (ap (loss_from s bit left) (sym z) ∙ e) ∙ sym (ap₂ both e z)

@@ -2,7 +2,7 @@
 use Prim.Native.Nat.{ℕ, zero, suc, ◌+◌, ◌-◌, ◌*◌, ◌/◌, ◌<◌}
 use mathlib.Core.Path.{◌≡◌, refl, sym, ap, ap₂, ◌∙◌}
 use mathlib.Core.List.{List, [], ◌++◌, append_assoc}
-use mathlib.Core.Option.{none}
+use Rattle.std.specs.Prelude.{None}
 use native.Mathlib.Nat.{zero-add}
 use native.Mathlib.Omega.{arith}
 use lib.ListN.{length, drop, length-append, length-drop}
@@ -105,7 +105,7 @@ searching_cut before known h s b = by (found_in s) refl
     last = drop d s ++ b
 
     -- where no place stands in s
-    on : (f : Found) → found_in s ≡ f → first_standing s ≡ none → found_in (s ++ b) ≡ found_on (8 * d) f (found_in last)
+    on : (f : Found) → found_in s ≡ f → first_standing s ≡ None → found_in (s ++ b) ≡ found_on (8 * d) f (found_in last)
     on f e n = found_goes_on s b n ∙ ap (λ x. found_on (8 * d) x (found_in last)) e
 
     then : (f : Found) → 0 < number_of f

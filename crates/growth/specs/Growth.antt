@@ -4,7 +4,7 @@
 -- stands, and from then on read from the start's bit on. The last multiframe that left stays in the window, so the next
 -- is judged by it as though the line had never been cut.
 use Rattle.std.specs.Prelude.{ℕ, zero, suc, ◌+◌, ◌-◌, ◌*◌, ◌/◌, ◌%◌, min, List, [], ◌++◌, length, drop}
-use Rattle.std.proofs.Math.Option.{Option, none, some}
+use Rattle.std.specs.Prelude.{Option, None, Some}
 use Rattle.align.specs.Place.{found_in, start_of}
 use Rattle.align.specs.declared.Found.{Found}
 use Rattle.align.specs.declared.Found.TheVariants.{At, BasicAt, Nothing}
@@ -36,13 +36,13 @@ kept_of used = min used 1
 
 -- of n octets with g used multiframes, those before the last of these are let go; after a loss all of them
 abbrev pub gone_of : ℕ → ℕ → Option ℕ → ℕ
-gone_of n g none = 512 * (g - 1)
-gone_of n g (some f) = n
+gone_of n g None = 512 * (g - 1)
+gone_of n g (Some f) = n
 
 -- a frame of the image as the line counts it, where so many frames were let go
 abbrev pub later_by : ℕ → Option ℕ → Option ℕ
-later_by d none = none
-later_by d (some f) = some (d + f)
+later_by d None = None
+later_by d (Some f) = Some (d + f)
 
 -- The image is read from bit q on: l is its loss and g its used multiframes, of which the first h have left before. The
 -- others leave. A block is judged when the next one, which carries its check, has come: the last of the h is judged now.

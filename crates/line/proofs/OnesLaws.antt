@@ -3,7 +3,7 @@
 use Prim.Native.Nat.{ℕ, zero, suc, ◌+◌, ◌*◌, ◌/◌, ◌%◌, ◌^◌, ◌<◌}
 use mathlib.Core.Path.{◌≡◌, refl, sym, ap, ap₂, ◌∙◌}
 use mathlib.Core.Bool.{Bool, true, false, cond, not}
-use mathlib.Core.Option.{Option, none, some}
+use Rattle.std.specs.Prelude.{Option, None, Some}
 use mathlib.Core.Logic.{inl, inr}
 use native.Mathlib.Nat.{add_comm, eq-or-lt_of_le, le_of_suc-le-suc}
 use native.Mathlib.Omega.{arith}
@@ -71,15 +71,15 @@ leading_more : (n : ℕ) (f g : ℕ → ℕ) → Binary f → Binary g
     → (o : Option ℕ) → least n (λ i. not (eqb (f i) (g i))) ≡ o → (b : Bool) → not (eqb (f n) (g n)) ≡ b
     → count_leading_zeros n (bit_xor (spelt n f) (spelt n g)) ≡ value_or o n
     → count_leading_zeros (suc n) (bit_xor (spelt (suc n) f) (spelt (suc n) g)) ≡ value_or (or_else o (when_so b n)) (suc n)
-leading_more n f g hf hg (some i) e b d h =
+leading_more n f g hf hg (Some i) e b d h =
     let z = bit_xor (spelt (suc n) f) (spelt (suc n) g) in
     let half = ap (count_leading_zeros n) (rest n f g hf hg) ∙ h in
     let i-below = ((least_some n (λ i. not (eqb (f i) (g i))) i).0 e).below in
     leading_half n z (omega (arith, leading_few n (z / 2) (omega (arith, half, i-below)))) ∙ half
-leading_more n f g hf hg none e true d h =
+leading_more n f g hf hg None e true d h =
     let z = bit_xor (spelt (suc n) f) (spelt (suc n) g) in
     leading_half n z (omega (arith, lowest n f g hf hg ∙ ap (λ x. cond x 1 0) d)) ∙ ap (count_leading_zeros n) (rest n f g hf hg) ∙ h
-leading_more n f g hf hg none e false d h =
+leading_more n f g hf hg None e false d h =
     let same : (i : ℕ) → i < suc n → f i ≡ g i
     = λ i l. elim (eq-or-lt_of_le (le_of_suc-le-suc l)) [
       | inl q ↦ rw q (eqb-true _ _ (not-false _ d))

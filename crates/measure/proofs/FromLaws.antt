@@ -5,7 +5,8 @@ use mathlib.Core.Path.{◌≡◌, refl, sym, ap, ap₂, ◌∙◌}
 use mathlib.Core.Bool.{Bool, true, false, ◌&&◌, not, and-eq-true_iff}
 use mathlib.Core.List.{List}
 use mathlib.Core.Logic.{◌⊎◌, inl, inr, ⊎_elim}
-use mathlib.Core.Option.{Option, none, some, none-ne-some, some-ne-none}
+use Rattle.std.specs.Prelude.{Option, None, Some}
+use Rattle.base.proofs.OptionLaws.{none-ne-some, some-ne-none}
 use native.Mathlib.Nat.{add-zero, zero-add, add-suc}
 use native.Mathlib.Omega.{arith}
 use borrow.Author.Tests.{leb-true, leb-false, le-leb, lt-leb}
@@ -26,32 +27,32 @@ first_ext zero f g h = refl
 first_ext (suc n) f g h = ap₂ or_else (first_ext n f g (λ i l. h i (omega arith))) (h n (omega arith))
 
 -- where none of the first a has any
-first_split {ℓ} : {A : Type ℓ} (a b : ℕ) (f : ℕ → Option A) → first a f ≡ none → first (a + b) f ≡ first b (λ i. f (a + i))
+first_split {ℓ} : {A : Type ℓ} (a b : ℕ) (f : ℕ → Option A) → first a f ≡ None → first (a + b) f ≡ first b (λ i. f (a + i))
 unfolding first
 first_split a zero f e = ap (λ n. first n f) (add-zero a) ∙ e
 first_split a (suc b) f e = ap (λ n. first n f) (add-suc a b) ∙ ap (λ o. or_else o (f (a + b))) (first_split a b f e)
 
 -- The earlier of two, by what is known of the other
 
-pub earlier_first : (f : ℕ) (o : Option ℕ) → ((g : ℕ) → o ≡ some g → f ≤ g) → earlier (some f) o ≡ some f
-earlier_first f none h = refl
-earlier_first f (some g) h = ap (λ b. some (if b then f else g)) (le-leb f g (h g refl))
+pub earlier_first : (f : ℕ) (o : Option ℕ) → ((g : ℕ) → o ≡ Some g → f ≤ g) → earlier (Some f) o ≡ Some f
+earlier_first f None h = refl
+earlier_first f (Some g) h = ap (λ b. Some (if b then f else g)) (le-leb f g (h g refl))
 
-pub earlier_second : (o : Option ℕ) (g : ℕ) → ((f : ℕ) → o ≡ some f → g < f) → earlier o (some g) ≡ some g
-earlier_second none g h = refl
-earlier_second (some f) g h = ap (λ b. some (if b then f else g)) (lt-leb f g (h f refl))
+pub earlier_second : (o : Option ℕ) (g : ℕ) → ((f : ℕ) → o ≡ Some f → g < f) → earlier o (Some g) ≡ Some g
+earlier_second None g h = refl
+earlier_second (Some f) g h = ap (λ b. Some (if b then f else g)) (lt-leb f g (h f refl))
 
-earlier_none : (x y : Option ℕ) → earlier x y ≡ none → (x ≡ none) × (y ≡ none)
-earlier_none none y e = (refl, e)
-earlier_none (some f) none e = absurd (some-ne-none _ e)
-earlier_none (some f) (some g) e = absurd (some-ne-none _ e)
+earlier_none : (x y : Option ℕ) → earlier x y ≡ None → (x ≡ None) × (y ≡ None)
+earlier_none None y e = (refl, e)
+earlier_none (Some f) None e = absurd (some-ne-none _ e)
+earlier_none (Some f) (Some g) e = absurd (some-ne-none _ e)
 
-earlier_some : (x y : Option ℕ) (f : ℕ) → earlier x y ≡ some f → (x ≡ some f) ⊎ (y ≡ some f)
-earlier_some none y f e = inr e
-earlier_some (some g) none f e = inl e
-earlier_some (some g) (some h) f e = go (leb g h) e
+earlier_some : (x y : Option ℕ) (f : ℕ) → earlier x y ≡ Some f → (x ≡ Some f) ⊎ (y ≡ Some f)
+earlier_some None y f e = inr e
+earlier_some (Some g) None f e = inl e
+earlier_some (Some g) (Some h) f e = go (leb g h) e
   where
-    go : (b : Bool) → some (if b then g else h) ≡ some f → (some g ≡ some f) ⊎ (some h ≡ some f)
+    go : (b : Bool) → Some (if b then g else h) ≡ Some f → (Some g ≡ Some f) ⊎ (Some h ≡ Some f)
     go true k = inl k
     go false k = inr k
 
@@ -59,7 +60,7 @@ earlier_some (some g) (some h) f e = go (leb g h) e
 
 module _ (t : ℕ → Bool) (frame : ℕ → ℕ) (c : ℕ) where
   -- where none of the first a is lost
-  in_on : (a : ℕ) → loss_in t frame c a ≡ none → (n : ℕ) → loss_in t frame c n ≡ loss_in t frame (c + a) (n - a)
+  in_on : (a : ℕ) → loss_in t frame c a ≡ None → (n : ℕ) → loss_in t frame c n ≡ loss_in t frame (c + a) (n - a)
   unfolding first
   in_on a e n = go (leb a n) refl
     where
@@ -80,7 +81,7 @@ module _ (t : ℕ → Bool) (frame : ℕ → ℕ) (c : ℕ) where
           first_less n a (λ i. at (c + i)) (omega arith) e ∙ sym (ap (loss_in t frame (c + a)) z)
 
   -- where it is
-  in_at : (n f : ℕ) → loss_in t frame c n ≡ some f → (j : ℕ) × (c ≤ j) × (j < c + n) × (2 ≤ j) × (f ≡ frame j)
+  in_at : (n f : ℕ) → loss_in t frame c n ≡ Some f → (j : ℕ) × (c ≤ j) × (j < c + n) × (2 ≤ j) × (f ≡ frame j)
   unfolding third
   in_at n f e =
       let w = first_some n (λ i. when_so (third t (c + i)) (frame (c + i))) f e in
@@ -91,13 +92,13 @@ module _ (t : ℕ → Bool) (frame : ℕ → ℕ) (c : ℕ) where
 
 module _ (t : ℕ → Bool) (frame : ℕ → ℕ) (c : ℕ) where
   -- past those without one
-  in_past : (a : ℕ) → loss_in t frame c a ≡ none → (n f : ℕ) → loss_in t frame c n ≡ some f → (j : ℕ) × (c + a ≤ j) × (f ≡ frame j)
+  in_past : (a : ℕ) → loss_in t frame c a ≡ None → (n f : ℕ) → loss_in t frame c n ≡ Some f → (j : ℕ) × (c + a ≤ j) × (f ≡ frame j)
   in_past a e n f k =
       let w = in_at t frame (c + a) (n - a) f (sym (in_on t frame c a e n) ∙ k) in
       (w.0, w.1, w.4)
 
   -- it stays, of more
-  in_more : (n m f : ℕ) → n ≤ m → loss_in t frame c n ≡ some f → loss_in t frame c m ≡ some f
+  in_more : (n m f : ℕ) → n ≤ m → loss_in t frame c n ≡ Some f → loss_in t frame c m ≡ Some f
   in_more n m f l e =
       let at : ℕ → Option ℕ = λ i. when_so (third t (c + i)) (frame (c + i)) in
       let w = first_some n at f e in
@@ -135,13 +136,13 @@ module _ (s : List ℕ) (q : ℕ) where
           (λ i l. ap (λ k. when_so (third t k) (frame k)) (zero-add i))
 
   -- where none is in multiframes h to k - 1
-  pub from_on : (h k m : ℕ) → h ≤ k → loss_from s q h k ≡ none → loss_from s q h m ≡ loss_from s q k m
+  pub from_on : (h k m : ℕ) → h ≤ k → loss_from s q h k ≡ None → loss_from s q h m ≡ loss_from s q k m
   unfolding loss_from
   from_on h k m l e =
       let w = earlier_none (loss_in (wrong s q) (λ i. 2 * i) (8 * h) (8 * (k - h))) _ e in
       ap₂ earlier (on (wrong s q) (λ i. 2 * i) w.0) (on (wrong_bit2 s q) (λ i. 2 * i + 1) w.1)
     where
-      on : (t : ℕ → Bool) (frame : ℕ → ℕ) → loss_in t frame (8 * h) (8 * (k - h)) ≡ none
+      on : (t : ℕ → Bool) (frame : ℕ → ℕ) → loss_in t frame (8 * h) (8 * (k - h)) ≡ None
           → loss_in t frame (8 * h) (8 * (m - h)) ≡ loss_in t frame (8 * k) (8 * (m - k))
       on t frame r =
           let x : 8 * h + 8 * (k - h) ≡ 8 * k = omega arith in
@@ -149,10 +150,10 @@ module _ (s : List ℕ) (q : ℕ) where
           in_on t frame (8 * h) (8 * (k - h)) r (8 * (m - h)) ∙ ap₂ (loss_in t frame) x y
 
   -- where none is before multiframe h
-  pub from_none : (h m : ℕ) → loss s q h ≡ none → loss_from s q h m ≡ loss s q m
+  pub from_none : (h m : ℕ) → loss s q h ≡ None → loss_from s q h m ≡ loss s q m
   from_none h m e = sym (from_on 0 h m (omega arith) (from_first h ∙ e)) ∙ from_first m
 
-  module _ (h m f : ℕ) (e : loss_from s q h m ≡ some f) where
+  module _ (h m f : ℕ) (e : loss_from s q h m ≡ Some f) where
     from_where : (4 ≤ f) × (16 * h ≤ f) × (f < 16 * m)
     unfolding loss_from
     from_where =
@@ -170,7 +171,7 @@ module _ (s : List ℕ) (q : ℕ) where
     from_among = (from_where.1, from_where.2)
 
     -- and stays where it is, of more of them
-    pub from_more : (n : ℕ) → m ≤ n → loss_from s q h n ≡ some f
+    pub from_more : (n : ℕ) → m ≤ n → loss_from s q h n ≡ Some f
     unfolding loss_from
     from_more n l = go (words m) (bits2 m) refl refl e
       where
@@ -180,22 +181,22 @@ module _ (s : List ℕ) (q : ℕ) where
         bits2 : ℕ → Option ℕ
         bits2 m = loss_in (wrong_bit2 s q) (λ i. 2 * i + 1) (8 * h) (8 * (m - h))
 
-        words_more : (x : ℕ) → words m ≡ some x → words n ≡ some x
+        words_more : (x : ℕ) → words m ≡ Some x → words n ≡ Some x
         words_more x = in_more (wrong s q) (λ i. 2 * i) (8 * h) (8 * (m - h)) (8 * (n - h)) x (omega arith)
 
-        bits2_more : (x : ℕ) → bits2 m ≡ some x → bits2 n ≡ some x
+        bits2_more : (x : ℕ) → bits2 m ≡ Some x → bits2 n ≡ Some x
         bits2_more x = in_more (wrong_bit2 s q) (λ i. 2 * i + 1) (8 * h) (8 * (m - h)) (8 * (n - h)) x (omega arith)
 
-        go : (x y : Option ℕ) → words m ≡ x → bits2 m ≡ y → earlier x y ≡ some f → earlier (words n) (bits2 n) ≡ some f
-        go none none i j k = absurd (none-ne-some f k)
-        go (some x) (some y) i j k = ap₂ earlier (words_more x i) (bits2_more y j) ∙ k
-        go (some x) none i j k =
+        go : (x y : Option ℕ) → words m ≡ x → bits2 m ≡ y → earlier x y ≡ Some f → earlier (words n) (bits2 n) ≡ Some f
+        go None None i j k = absurd (none-ne-some f k)
+        go (Some x) (Some y) i j k = ap₂ earlier (words_more x i) (bits2_more y j) ∙ k
+        go (Some x) None i j k =
             let w = in_at (wrong s q) (λ i. 2 * i) (8 * h) (8 * (m - h)) x i in
             ap (λ o. earlier o (bits2 n)) (words_more x i)
             ∙ earlier_first x (bits2 n) (λ g r.
             let v = in_past (wrong_bit2 s q) (λ i. 2 * i + 1) (8 * h) (8 * (m - h)) j (8 * (n - h)) g r in omega arith)
             ∙ k
-        go none (some y) i j k =
+        go None (Some y) i j k =
             let w = in_at (wrong_bit2 s q) (λ i. 2 * i + 1) (8 * h) (8 * (m - h)) y j in
             ap (earlier (words n)) (bits2_more y j)
             ∙ earlier_second (words n) y (λ g r.
@@ -207,12 +208,12 @@ module _ (s : List ℕ) (q : ℕ) where
   used_upto h m = go (loss_from s q h m) refl
     where
       go : (o : Option ℕ) → loss_from s q h m ≡ o → used_of o m ≤ m
-      go none e = omega arith
-      go (some f) e = let w = from_among h m f e in omega arith
+      go None e = omega arith
+      go (Some f) e = let w = from_among h m f e in omega arith
 
   pub used_from_lem : (h m : ℕ) → h ≤ m → h ≤ used_of (loss_from s q h m) m
   used_from_lem h m l = go (loss_from s q h m) refl
     where
       go : (o : Option ℕ) → loss_from s q h m ≡ o → h ≤ used_of o m
-      go none e = l
-      go (some f) e = let w = from_among h m f e in omega arith
+      go None e = l
+      go (Some f) e = let w = from_among h m f e in omega arith

@@ -4,7 +4,7 @@ use Prim.Native.Nat.{ℕ, zero, suc, ◌+◌, ◌-◌, ◌*◌, ◌/◌, ◌%◌
 use mathlib.Core.Path.{◌≡◌, refl, sym, ap, ◌∙◌, subst}
 use mathlib.Core.Bool.{Bool, true, false, ◌&&◌, and-eq-true_iff, true≢false}
 use mathlib.Core.Logic.{◌↔◌}
-use mathlib.Core.Option.{Option, none, some}
+use Rattle.std.specs.Prelude.{Option, None, Some}
 use native.Mathlib.Numerals.{add-one}
 use native.Mathlib.Omega.{arith}
 use borrow.Author.Tests.{leb-true, leb-false, le-leb, lt-leb, ltb-true, ltb-false}
@@ -74,7 +74,7 @@ last_false true true false d e = refl
 last_false true true true d e = e
 
 -- where none passes the test there is no loss
-pub never_third : (t : ℕ → Bool) (frame : ℕ → ℕ) (n : ℕ) → ((i : ℕ) → i < n → t i ≡ false) → loss_by t frame n ≡ none
+pub never_third : (t : ℕ → Bool) (frame : ℕ → ℕ) (n : ℕ) → ((i : ℕ) → i < n → t i ≡ false) → loss_by t frame n ≡ None
 unfolding third
 never_third t frame n h =
     none_first n (λ i. when_so (third t i) (frame i))
@@ -100,7 +100,7 @@ module _ {t : ℕ → Bool} {c i run : ℕ} (h : Run t c i run) where
   short = omega (arith, h.its)
 
   -- no loss before, and none among fewer
-  pub none_lost : (frame : ℕ → ℕ) (n : ℕ) → c + n ≤ i → loss_in t frame c n ≡ none
+  pub none_lost : (frame : ℕ → ℕ) (n : ℕ) → c + n ≤ i → loss_in t frame c n ≡ None
   none_lost frame n l =
       none_first n (λ j. when_so (third t (c + j)) (frame (c + j)))
       (λ j k. ap (λ b. when_so b (frame (c + j))) (h.no_loss (c + j) (omega arith) (omega arith)))
@@ -128,7 +128,7 @@ module _ {t : ℕ → Bool} {c i run : ℕ} (h : Run t c i run) where
             let is : k ≡ i = omega (arith, ltb-false k i w) in ap (third t) is ∙ third_now ∙ lt-leb 3 run' l
 
     -- the loss
-    pub run_lost : run' ≡ 3 → c ≤ i → (frame : ℕ → ℕ) (n : ℕ) → i < c + n → loss_in t frame c n ≡ some (frame i)
+    pub run_lost : run' ≡ 3 → c ≤ i → (frame : ℕ → ℕ) (n : ℕ) → i < c + n → loss_in t frame c n ≡ Some (frame i)
     run_lost z a frame n l =
         let is : c + (i - c) ≡ i = omega arith in
         some_first n (i - c) (λ j. when_so (third t (c + j)) (frame (c + j))) (frame i) (omega arith)
@@ -136,7 +136,7 @@ module _ {t : ℕ → Bool} {c i run : ℕ} (h : Run t c i run) where
         (ap (λ k. when_so (third t k) (frame k)) is ∙ ap (λ b. when_so b (frame i)) (third_now ∙ ap (leb 3) z))
 
   -- what is lost later is lost at i or after it
-  pub lost_later : (frame : ℕ → ℕ) (n f : ℕ) → loss_in t frame c n ≡ some f → (j : ℕ) × (i ≤ j) × (f ≡ frame j)
+  pub lost_later : (frame : ℕ → ℕ) (n f : ℕ) → loss_in t frame c n ≡ Some f → (j : ℕ) × (i ≤ j) × (f ≡ frame j)
   lost_later frame n f e =
       let w = first_some n (λ j. when_so (third t (c + j)) (frame (c + j))) f e in
       let j = c + w.0 in
@@ -188,7 +188,7 @@ module _ (t : ℕ → Bool) (P : ℕ → Type 0) (b : ℕ) (two-kinds : b < 2) (
       denies (third_holds (g / 2)) e (subst (ThirdInRow P) f h)
 
   module _ (n : ℕ) where
-    pub lost_by_lem : (f : ℕ) → loss_by t frame n ≡ some f
+    pub lost_by_lem : (f : ℕ) → loss_by t frame n ≡ Some f
         → (f % 2 ≡ b) × ThirdInRow P f × (f < 2 * n) × ((g : ℕ) → g < f → g % 2 ≡ b → ThirdInRow P g → ⊥)
     lost_by_lem f e =
         let w = first_some n (λ j. when_so (third t j) (frame j)) f e in
@@ -201,6 +201,6 @@ module _ (t : ℕ → Bool) (P : ℕ → Type 0) (b : ℕ) (two-kinds : b < 2) (
           λ g l k. not_third g (when_so_none (third t (g / 2)) (frame (g / 2)) (w.3 (g / 2) (omega arith))) k,
         )
 
-    pub not_lost_by : loss_by t frame n ≡ none → (g : ℕ) → g < 2 * n → g % 2 ≡ b → ThirdInRow P g → ⊥
+    pub not_lost_by : loss_by t frame n ≡ None → (g : ℕ) → g < 2 * n → g % 2 ≡ b → ThirdInRow P g → ⊥
     not_lost_by e g l k =
         not_third g (when_so_none (third t (g / 2)) (frame (g / 2)) (first_none n (λ j. when_so (third t j) (frame j)) e (g / 2) (omega arith))) k

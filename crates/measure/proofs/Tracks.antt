@@ -4,7 +4,7 @@ use Prim.Native.Nat.{ℕ, ◌+◌, ◌-◌, ◌*◌, ◌≤◌, ◌<◌, min}
 use mathlib.Core.Path.{◌≡◌, refl, sym, ap, ap₂, ◌∙◌}
 use mathlib.Core.Bool.{Bool, true, false, not}
 use mathlib.Core.List.{List}
-use mathlib.Core.Option.{none, some}
+use Rattle.std.specs.Prelude.{None, Some}
 use native.Mathlib.Omega.{arith}
 use lib.Dec.{eqb}
 use Rattle.base.specs.Tab.{sum, count}
@@ -113,7 +113,7 @@ module _ {s : List ℕ} {q h i j : ℕ} {t : Tracking} (p : Passed s q h i j t) 
         p.its_bits ∙ ap (λ x. sum x (wrong_bits_of s (q + 4096 * h))) n,
       )
 
-  pub none_yet : (m : ℕ) → h ≤ m → 8 * m ≤ i → 8 * m ≤ j → loss_from s q h m ≡ none
+  pub none_yet : (m : ℕ) → h ≤ m → 8 * m ≤ i → 8 * m ≤ j → loss_from s q h m ≡ None
   unfolding loss_from
   none_yet m a k l =
       ap₂ earlier
@@ -138,7 +138,7 @@ module _ {s : List ℕ} {q h i : ℕ} {t : Tracking} (p : Passed s q h i i t) {w
   word_run : t'.wordrun ≡ (if wrong s q i then t.wordrun + 1 else 0)
   word_run = r.0 ∙ chosen (t.wordrun + 1)
 
-  pub lost_by_word : t'.wordrun ≡ 3 → (m : ℕ) → i < 8 * m → loss_from s q h m ≡ some (2 * i)
+  pub lost_by_word : t'.wordrun ≡ 3 → (m : ℕ) → i < 8 * m → loss_from s q h m ≡ Some (2 * i)
   unfolding loss_from
   lost_by_word z m l =
       let n = 8 * (m - h) in
@@ -175,7 +175,7 @@ module _ {s : List ℕ} {q h i : ℕ} {t : Tracking} (p : Passed s q h (i + 1) i
   unfolding wrong_bit2
   bit2_run = r.1 ∙ ap (λ x. if eqb x 0 then t.bit2run + 1 else 0) e
 
-  pub lost_by_bit2 : t'.bit2run ≡ 3 → (m : ℕ) → 8 * h ≤ i → i < 8 * m → loss_from s q h m ≡ some (2 * i + 1)
+  pub lost_by_bit2 : t'.bit2run ≡ 3 → (m : ℕ) → 8 * h ≤ i → i < 8 * m → loss_from s q h m ≡ Some (2 * i + 1)
   unfolding loss_from
   lost_by_bit2 z m a l =
       let n = 8 * (m - h) in

@@ -1,7 +1,7 @@
 -- What is read from a multiframe start q on (KIT §5), in an image of any length. Frames are numbered from q; m and g
 -- are numbers of multiframes.
 use Rattle.std.specs.Prelude.{if◌then◌else◌, ℕ, ◌+◌, ◌-◌, ◌*◌, ◌/◌, ◌%◌, Bool, ◌&&◌, not, List, eqb, leb, length}
-use Rattle.std.proofs.Math.Option.{Option, none, some}
+use Rattle.std.specs.Prelude.{Option, None, Some}
 use Rattle.line.specs.Bit.{bit_at, octet_at}
 use Rattle.base.specs.Choice.{when_so}
 use Rattle.base.specs.Tab.{tab, sum, count, first}
@@ -39,9 +39,9 @@ bit2_loss s q m = first (8 * m) (λ i. when_so (third (wrong_bit2 s q) i) (2 * i
 
 -- the earlier of two frames, where there are any
 abbrev pub earlier : Option ℕ → Option ℕ → Option ℕ
-earlier none g = g
-earlier (some f) none = some f
-earlier (some f) (some g) = some (if leb f g then f else g)
+earlier None g = g
+earlier (Some f) None = Some f
+earlier (Some f) (Some g) = Some (if leb f g then f else g)
 
 -- the frame of the loss
 unfoldable pub loss : List ℕ → ℕ → ℕ → Option ℕ
@@ -56,18 +56,18 @@ loss_from s q h m =
 
 -- it is answered as 0 where there is no loss
 abbrev pub lost_at : Option ℕ → ℕ
-lost_at (some f) = f
-lost_at none = 0
+lost_at (Some f) = f
+lost_at None = 0
 
 -- its cause: 1 by words, at an even frame, 2 by bits 2, at an odd one; 0 where there is no loss
 abbrev pub cause_of : Option ℕ → ℕ
-cause_of (some f) = 1 + f % 2
-cause_of none = 0
+cause_of (Some f) = 1 + f % 2
+cause_of None = 0
 
 -- G: the number of the multiframe that holds that frame, or m where there is no loss
 abbrev pub used_of : Option ℕ → ℕ → ℕ
-used_of (some f) m = f / 16
-used_of none m = m
+used_of (Some f) m = f / 16
+used_of None m = m
 
 -- slots 1 to 31 of n frames, in the payload's order
 unfoldable pub slots : List ℕ → ℕ → ℕ → List ℕ

@@ -4,7 +4,7 @@ use Prim.Native.Nat.{ℕ, zero, suc, ◌+◌, ◌*◌, ◌≤◌, ◌<◌}
 use mathlib.Core.Path.{◌≡◌, refl, sym, ap, subst, ◌∙◌}
 use mathlib.Core.Bool.{Bool, true, false, ◌||◌, true≢false}
 use mathlib.Core.List.{List, [], ◌∷◌}
-use mathlib.Core.Option.{Option, none, some}
+use Rattle.std.specs.Prelude.{Option, None, Some}
 use mathlib.Mathlib.Data.Bool.Basic.{or-eq-false-eq-eq-false-and-eq-false}
 use native.Mathlib.Omega.{arith}
 use borrow.Author.Tests.{lt-ltb, le-ltb, ltb-false}
@@ -37,10 +37,10 @@ numbered_15 (BasicAt p) e = refl
 numbered_15 Nothing e = absurd (true≢false (sym e))
 
 found_0 : (o : Option Standing) (b : Option ℕ) → eqb (number_of (found o b)) 3 ≡ false
-    → eqb (number_of (found o b)) 15 ≡ false → (w : Standing) × (o ≡ some w)
-found_0 (some w) b e f = (w, refl)
-found_0 none (some p) e f = absurd (true≢false f)
-found_0 none none e f = absurd (true≢false e)
+    → eqb (number_of (found o b)) 15 ≡ false → (w : Standing) × (o ≡ Some w)
+found_0 (Some w) b e f = (w, refl)
+found_0 None (Some p) e f = absurd (true≢false f)
+found_0 None None e f = absurd (true≢false e)
 
 -- past the tests of the length
 tested_good : (s : List ℕ) → ltb (length s) 2048 ≡ false → ltb 8192 (length s) ≡ false → GoodLength s
@@ -53,7 +53,7 @@ pub placed_2 : (s : List ℕ) → 8192 < length s → first_number (unplaced s) 
 placed_2 s h = rw (le-ltb (length s) 2048 (omega arith), lt-ltb 8192 (length s) h)
 
 module _ (s : List ℕ) (good : GoodLength s) where
-  pub placed_0 : (w : Standing) → first_standing s ≡ some w → first_number (unplaced s) ≡ 0
+  pub placed_0 : (w : Standing) → first_standing s ≡ Some w → first_number (unplaced s) ≡ 0
   placed_0 w e = rw (le-ltb (length s) 2048 good.long, le-ltb 8192 (length s) good.short, e) refl
 
   pub placed_3 : found_in s ≡ Nothing → first_number (unplaced s) ≡ 3
@@ -63,7 +63,7 @@ module _ (s : List ℕ) (good : GoodLength s) where
   placed_15 p e = rw (le-ltb (length s) 2048 good.long, le-ltb 8192 (length s) good.short, e)
 
 -- an image that is not refused by these has a good length, and a place stands in it
-pub placed : (s : List ℕ) → first_number (unplaced s) ≡ 0 → GoodLength s × (w : Standing) × (first_standing s ≡ some w)
+pub placed : (s : List ℕ) → first_number (unplaced s) ≡ 0 → GoodLength s × (w : Standing) × (first_standing s ≡ Some w)
 placed s e =
     let t = rw e at (first_tells (unplaced s) refl) in
     let w = found_0 (first_standing s) (first_basic s) t.1.1.0 t.1.1.1.0 in
@@ -111,11 +111,11 @@ module _ (s : List ℕ) (a b : ℕ) where
     refused_15 p e = unplaced_first 15 (sym (placed_15 s good p e)) (λ z. omega arith)
 
     -- on which a place stands
-    pub accepts : (w : Standing) → first_standing s ≡ some w → short_output ≡ false → refusal s a b ≡ 0
+    pub accepts : (w : Standing) → first_standing s ≡ Some w → short_output ≡ false → refusal s a b ≡ 0
     accepts w e f = placed_then (placed_0 s good w e) false f
 
 -- the place and the start are those of the first place that stands
-module _ (s : List ℕ) (w : Standing) (e : first_standing s ≡ some w) where
+module _ (s : List ℕ) (w : Standing) (e : first_standing s ≡ Some w) where
   pub place_is : w.place ≡ place_in s
   unfolding place_in
   place_is = sym (ap (λ o. place_of (found o (first_basic s))) e)

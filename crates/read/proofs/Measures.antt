@@ -3,7 +3,7 @@ use Prim.Native.Nat.{ℕ, zero, suc, ◌+◌, ◌-◌, ◌*◌, ◌/◌, ◌≤�
 use mathlib.Core.Path.{◌≡◌, refl, sym, ap, ap₂, ◌∙◌}
 use mathlib.Core.Bool.{true, false, ◌||◌}
 use mathlib.Core.List.{List, ◌++◌}
-use mathlib.Core.Option.{some}
+use Rattle.std.specs.Prelude.{Some}
 use native.Mathlib.Nat.{add-zero}
 use native.Mathlib.Omega.{arith}
 use lib.Dec.{ltb}
@@ -31,7 +31,7 @@ pub record Measured (s : List ℕ) (q m g : ℕ) : Type 0 where
   pub upto : g ≡ used_in s
   pub room : Room s q (4096 * g)
 
-module _ (s : List ℕ) (good : GoodLength s) (p k : ℕ) (e : first_standing s ≡ some (record { place = p; k = k })) where
+module _ (s : List ℕ) (good : GoodLength s) (p k : ℕ) (e : first_standing s ≡ Some (record { place = p; k = k })) where
   pub start_room : (p + 16384 ≤ 8 * length s) × (k ≤ 18) × (length s ≤ 8192)
   start_room = let h = first_within s p k e in (h.0, omega arith, good.short)
 
@@ -82,7 +82,7 @@ located_nowhere s n p e q =
 
 -- what is located in an image that a place stands in
 pub record Places (s : List ℕ) (l : Located) : Type 0 where
-  pub none : first_number (unplaced s) ≡ 0
+  pub None : first_number (unplaced s) ≡ 0
   pub its : l ≡ found s
   pub at : l.start ≡ start_in s
   pub upto : l.used ≡ used_in s
@@ -116,7 +116,7 @@ module _ (s : List ℕ) (l : Located) (h : l ≡ located s) where
       let f = whole_fits s (start_in s) (omega arith) in
       let u = used_le s (start_in s) (whole_in s) in
       record {
-        none = n;
+        None = n;
         its = its;
         at = at;
         upto = upto;

@@ -1,6 +1,6 @@
 -- What `read` answers, and what it leaves in the two outputs (KIT §5).
 use Rattle.std.specs.Prelude.{if◌then◌else◌, ℕ, ◌*◌, ◌≤◌, ◌||◌, ◌≡◌, List, [], ◌∷◌, ◌++◌, eqb, ltb, length, drop}
-use Rattle.std.proofs.Math.Option.{Option}
+use Rattle.std.specs.Prelude.{Option}
 use Rattle.align.specs.Place.{found_in, number_of, place_of, start_of}
 use Rattle.base.specs.Answer.{accepted, Refusal, ◌when◌, first_number}
 use Rattle.measure.specs.Reading.{whole, loss, lost_at, cause_of, used_of, payload_of, slot0_of, word_errors, word_bits}

@@ -2,7 +2,7 @@
 #![tactic(auto)]
 
 ghost use Rattle.std.specs.Prelude.{◌≡◌};
-ghost use Rattle.std.proofs.Math.Option.{some};
+ghost use Rattle.std.specs.Prelude.{Some};
 ghost use Rattle.align.specs.Place.{first_standing};
 ghost use Rattle.read.specs.Entry.{Read, GoodLength, refuse, nowhere, located};
 
@@ -77,7 +77,7 @@ fn nowhere(number: u64, at: usize) -> Located
 
 // from the first place that stands, with its least k
 fn located_at(image: &[u8], place: usize, k: usize) -> Located
-    requires { GoodLength image.now × (first_standing image.now ≡ some (record { place = place; k = k })) }
+    requires { GoodLength image.now × (first_standing image.now ≡ Some (record { place = place; k = k })) }
     ensures { result ≡ located image.now }
 {
     let start = place + 512 * k;

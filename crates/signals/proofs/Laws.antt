@@ -4,7 +4,7 @@ use Prim.Native.Nat.{ℕ, zero, suc, ◌+◌, ◌-◌, ◌/◌, ◌%◌, ◌≤�
 use mathlib.Core.Path.{◌≡◌, refl, sym, ap, ◌∙◌}
 use mathlib.Core.Bool.{Bool, true, false, ◌&&◌, not, true≢false}
 use mathlib.Core.List.{List}
-use mathlib.Core.Option.{Option, none, some}
+use Rattle.std.specs.Prelude.{Option, None, Some}
 use native.Mathlib.Nat.{zero-add}
 use native.Mathlib.Numerals.{add-one}
 use native.Mathlib.Omega.{arith}
@@ -119,17 +119,17 @@ module _ (t : List ℕ) where
   -- The first alignment
 
   -- 0 says that there is none
-  pub first_none : (f : ℕ) → first_in t f ≡ 0 → least f (aligns t) ≡ none
+  pub first_none : (f : ℕ) → first_in t f ≡ 0 → least f (aligns t) ≡ None
   unfolding first_in aligns
   first_none f z = go (least f (aligns t)) refl z
     where
-      go : (o : Option ℕ) → least f (aligns t) ≡ o → value_or o 0 ≡ 0 → o ≡ none
-      go none e z = refl
-      go (some i) e z =
+      go : (o : Option ℕ) → least f (aligns t) ≡ o → value_or o 0 ≡ 0 → o ≡ None
+      go None e z = refl
+      go (Some i) e z =
           let l = (least_some f (aligns t) i).0 e in
           absurd (true≢false (sym l.passes ∙ ap (aligns t) z))
 
-  pub none_first : (f : ℕ) → least f (aligns t) ≡ none → first_in t f ≡ 0
+  pub none_first : (f : ℕ) → least f (aligns t) ≡ None → first_in t f ≡ 0
   unfolding first_in
   none_first f e = ap (λ o. value_or o 0) e
 
@@ -145,8 +145,8 @@ module _ (t : List ℕ) where
   first_kept f n h l = go (least f (aligns t)) refl h
     where
       go : (o : Option ℕ) → least f (aligns t) ≡ o → (value_or o 0 ≡ 0 → ⊥) → value_or (least n (aligns t)) 0 ≡ value_or o 0
-      go none e h = absurd (h refl)
-      go (some i) e h =
+      go None e h = absurd (h refl)
+      go (Some i) e h =
           let k = (least_some f (aligns t) i).0 e in
           let m : Least n (aligns t) i = record { below = omega (arith, k.below); passes = k.passes; before = k.before } in
           ap (λ o. value_or o 0) ((least_some n (aligns t) i).1 m)

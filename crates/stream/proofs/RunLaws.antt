@@ -6,7 +6,7 @@ use mathlib.Core.Path.{◌≡◌, refl, sym, ap, ap₂, subst, ◌∙◌}
 use mathlib.Core.Bool.{Bool, true, false, true≢false}
 use mathlib.Core.List.{List, [], ◌∷◌, ◌++◌}
 use mathlib.Core.Logic.{◌≢◌, ⊎_elim}
-use mathlib.Core.Option.{Option, none, some}
+use Rattle.std.specs.Prelude.{Option, None, Some}
 use native.Mathlib.Nat.{zero-add}
 use native.Mathlib.Omega.{arith}
 use borrow.Author.Tests.{le-ltb, ltb-false, ne_eqb}
@@ -98,7 +98,7 @@ module _ (st : Stream) where
   pub ended_by : end_refusal st ≡ 0 → (ending st).stream ≡ record { ended = true; fill = st.fill; line = st.line }
   ended_by e = ap (λ (x : Ended). x.stream) (sym (ended_so st e (end_accept st) refl))
 
-late : (s : List ℕ) (q m f : ℕ) → loss s q m ≡ some f → 4 ≤ f
+late : (s : List ℕ) (q m f : ℕ) → loss s q m ≡ Some f → 4 ≤ f
 late s q m f e = ⊎_elim (λ w. w.wrong.enough) (λ w. w.wrong.enough) (loss_is s q m f e).here
 
 -- A line that comes at once
@@ -142,8 +142,8 @@ module _ (s : List ℕ) where
   lost_few (At p k) e = let q = p + 512 * k in omega (arith, (at_once s p k e).lost, go q (loss s q (whole s q)) refl)
     where
       go : (q : ℕ) (l : Option ℕ) → loss s q (whole s q) ≡ l → lost_at l ≤ 8 * length s
-      go q none e = omega arith
-      go q (some f) e = omega (arith, (loss_is s q (whole s q) f e).among)
+      go q None e = omega arith
+      go q (Some f) e = omega (arith, (loss_is s q (whole s q) f e).among)
   lost_few (BasicAt p) e =
       let z : left.line.lost ≡ 0 = ap (λ f. (searched 0 Nothing s f).line.lost) e in omega arith
   lost_few Nothing e =
@@ -178,8 +178,8 @@ module _ (s : List ℕ) where
     read_at_once = subst (λ q. AtOnce s q left) (sym (ap start_of e)) (at_once s p k e)
 
   cause_by_lem : (q m : ℕ) (l : Option ℕ) → loss s q m ≡ l → cause_by (lost_at l) ≡ cause_of l
-  cause_by_lem q m none e = refl
-  cause_by_lem q m (some f) e =
+  cause_by_lem q m None e = refl
+  cause_by_lem q m (Some f) e =
       ap (λ b. if b then 0 else 1 + f % 2) (ne_eqb f 0 (λ z. omega (arith, late s q m f e)))
 
   stood : (f : Found) → eqb (number_of f) 3 ≡ false → eqb (number_of f) 15 ≡ false → number_of f ≡ 0
@@ -243,8 +243,8 @@ module _ (s : List ℕ) where
   unfolding line_payload line_slot0
   left_at_once = by (found_in s) refl
     where
-      none : (f : Found) → found_in s ≡ f → 0 < number_of f → (left.payload ≡ line_payload s) × (left.slot0 ≡ line_slot0 s)
-      none f e h =
+      None : (f : Found) → found_in s ≡ f → 0 < number_of f → (left.payload ≡ line_payload s) × (left.slot0 ≡ line_slot0 s)
+      None f e h =
           let z : number_of (found_in s) ≡ 0 → ⊥ = λ z. omega (arith, ap number_of e) in
           let w = none_left s (omega (arith, ap number_of e)) in (
             w.0 ∙ sym (accepted_not (number_of (found_in s)) (payload_of s (start_in s) (used_in s)) [] z),
@@ -257,8 +257,8 @@ module _ (s : List ℕ) where
             a.payload ∙ sym (accepted_so (number_of (found_in s)) (payload_of s (start_in s) (used_in s)) [] (ap number_of e)),
             a.slot0 ∙ sym (accepted_so (number_of (found_in s)) (slot0_of s (start_in s) (used_in s)) [] (ap number_of e)),
           )
-      by (BasicAt p) e = none (BasicAt p) e (lit≤ tt)
-      by Nothing e = none Nothing e (lit≤ tt)
+      by (BasicAt p) e = None (BasicAt p) e (lit≤ tt)
+      by Nothing e = None Nothing e (lit≤ tt)
 
   -- What is held of it
 
@@ -294,7 +294,7 @@ module _ (s : List ℕ) where
 
         by : (l : Option ℕ) → loss_from part bit 0 (whole part bit) ≡ l
             → Following (read_on (unread (0 + from / 8) (At (8 * 0 + p) k)) part bit 0 l (used_of l (whole part bit)))
-        by none d =
+        by None d =
             let m = whole part bit in
             let z : from / 8 + 512 * (m - 1) ≡ 0 + from / 8 + 512 * (m - 1) = omega arith in
             record {
@@ -303,15 +303,15 @@ module _ (s : List ℕ) where
               short = omega (arith, length-drop (512 * (m - 1)) part, length-drop (from / 8) s, room);
               lost = λ h. absurd (omega arith);
             }
-        by (some f) d =
+        by (Some f) d =
             let n = length part in
             let z : from / 8 + n ≡ 0 + from / 8 + n = omega arith in
-            let none : length (drop n part) ≡ 0 = omega (arith, length-drop n part) in
+            let None : length (drop n part) ≡ 0 = omega (arith, length-drop n part) in
             record {
               last = drop-drop n (from / 8) s ∙ ap (λ n. drop n s) z;
               before = λ h. absurd (omega (arith, from_late part bit 0 (whole part bit) f d));
-              short = omega (arith, none);
-              lost = λ h. none;
+              short = omega (arith, None);
+              lost = λ h. None;
             }
 
   pub follows : number_of (found_in s) ≡ 0 → Following left

@@ -4,7 +4,8 @@ use mathlib.Core.Path.{◌≡◌, refl, sym, ap, ◌∙◌}
 use mathlib.Core.Bool.{Bool, true, ◌&&◌, and-eq-true_iff}
 use mathlib.Core.List.{List}
 use mathlib.Core.Logic.{◌↔◌}
-use mathlib.Core.Option.{Option, none, some, some-injective}
+use Rattle.std.specs.Prelude.{Option, None, Some}
+use Rattle.base.proofs.OptionLaws.{some-injective}
 use mathlib.Mathlib.Data.Bool.Basic.{eq-false_of_not-eq-true}
 use native.Mathlib.Omega.{arith}
 use borrow.Author.Tests.{leb-true, le-leb, eqb-true, eq-eqb}
@@ -52,16 +53,16 @@ stands_here s p = (there, back)
 
 module _ (s : List ℕ) where
   -- the place that is worked out is the first that stands
-  pub first_stands : (p : ℕ) → first_standing s ≡ some p ↔ StandsFirst s p
+  pub first_stands : (p : ℕ) → first_standing s ≡ Some p ↔ StandsFirst s p
   unfolding first_standing
   first_stands p = (there, back)
     where
-      there : first_standing s ≡ some p → StandsFirst s p
+      there : first_standing s ≡ Some p → StandsFirst s p
       there e =
           let l = (least_some (8 * length s) (standing s) p).0 e in
           record { stands = (stands_here s p).0 l.passes; before = λ q h. denies (stands_here s q) (l.before q h) }
 
-      back : StandsFirst s p → first_standing s ≡ some p
+      back : StandsFirst s p → first_standing s ≡ Some p
       back h =
           (least_some (8 * length s) (standing s) p).1 (record {
             below = omega (arith, h.stands.room);
@@ -70,7 +71,7 @@ module _ (s : List ℕ) where
           })
 
   -- and there is none exactly if no place stands
-  pub none_stands : first_standing s ≡ none ↔ ((p : ℕ) → Stands s p → ⊥)
+  pub none_stands : first_standing s ≡ None ↔ ((p : ℕ) → Stands s p → ⊥)
   unfolding first_standing
   none_stands = (
     λ e p h. denies (stands_here s p) (least_none (8 * length s) (standing s) e p (omega (arith, h.room))) h,
@@ -82,17 +83,17 @@ module _ (s : List ℕ) where
   stands_single p q h g = some-injective _ _ (sym ((first_stands p).1 h) ∙ (first_stands q).1 g)
 
   -- and the bits from it on are there
-  pub first_within : (p : ℕ) → first_standing s ≡ some p → p + 9264 ≤ 8 * length s
+  pub first_within : (p : ℕ) → first_standing s ≡ Some p → p + 9264 ≤ 8 * length s
   first_within p e = ((first_stands p).0 e).stands.room
 
 -- what the search answers, case by case
-pub found_at : (o : Option ℕ) (p : ℕ) → found o ≡ At p → o ≡ some p
-found_at (some q) p e = ap some (cc)
-found_at none p e = let z : ◌≡◌ {A = ℕ} 0 1 = cc in absurd (omega arith)
+pub found_at : (o : Option ℕ) (p : ℕ) → found o ≡ At p → o ≡ Some p
+found_at (Some q) p e = ap Some (cc)
+found_at None p e = let z : ◌≡◌ {A = ℕ} 0 1 = cc in absurd (omega arith)
 
-pub found_nothing : (o : Option ℕ) → found o ≡ Nothing → o ≡ none
-found_nothing (some q) e = let z : ◌≡◌ {A = ℕ} 0 1 = cc in absurd (omega arith)
-found_nothing none e = refl
+pub found_nothing : (o : Option ℕ) → found o ≡ Nothing → o ≡ None
+found_nothing (Some q) e = let z : ◌≡◌ {A = ℕ} 0 1 = cc in absurd (omega arith)
+found_nothing None e = refl
 
 -- that is, the first place that stands, or nothing where none does
 pub finds_at : (s : List ℕ) (p : ℕ) → found_in s ≡ At p ↔ StandsFirst s p

@@ -1,7 +1,7 @@
 -- Which place stands (KIT §15), as it is worked out: the first of an image from which two whole superframes follow, both
 -- with the signal, the first agreeing with the check that the second carries.
 use Rattle.std.specs.Prelude.{ℕ, ◌+◌, ◌*◌, Bool, ◌&&◌, List, leb, length}
-use Rattle.std.proofs.Math.Option.{Option, none, some}
+use Rattle.std.specs.Prelude.{Option, None, Some}
 use Rattle.base.specs.Tab.{least}
 use Rattle.t1.specs.Superframe.{framed, agrees}
 use Rattle.t1align.specs.declared.Found.{Found}
@@ -17,8 +17,8 @@ first_standing s = least (8 * length s) (standing s)
 
 -- the same as the search answers it
 abbrev pub found : Option ℕ → Found
-found (some p) = At p
-found none = Nothing
+found (Some p) = At p
+found None = Nothing
 
 abbrev pub found_in : List ℕ → Found
 found_in s = found (first_standing s)

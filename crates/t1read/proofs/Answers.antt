@@ -2,7 +2,7 @@
 use Prim.Native.Nat.{ℕ, ◌-◌, ◌*◌, ◌/◌, ◌≤◌}
 use mathlib.Core.Path.{◌≡◌, sym, ap, ap₂, ◌∙◌}
 use mathlib.Core.List.{List, ◌++◌}
-use mathlib.Core.Option.{some}
+use Rattle.std.specs.Prelude.{Some}
 use native.Mathlib.Omega.{arith}
 use lib.ListN.{length, drop}
 use Rattle.base.proofs.AnswerLaws.{accepted_so}
@@ -19,7 +19,7 @@ pub record Measured (s : List ℕ) (p m : ℕ) : Type 0 where
   pub two : 2 ≤ m
   pub room : Room s p (4632 * m)
 
-module _ (s : List ℕ) (good : GoodLength s) (p : ℕ) (e : first_standing s ≡ some p) (m : ℕ)
+module _ (s : List ℕ) (good : GoodLength s) (p : ℕ) (e : first_standing s ≡ Some p) (m : ℕ)
     (hm : m ≡ (8 * length s - p) / 4632) where
   pub measured : Measured s p m
   unfolding whole

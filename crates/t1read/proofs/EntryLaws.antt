@@ -4,7 +4,7 @@ use mathlib.Core.Path.{◌≡◌, refl, sym, ap, subst, ◌∙◌}
 use mathlib.Core.Bool.{Bool, true, false, ◌||◌, true≢false, or-true}
 use mathlib.Core.List.{List}
 use mathlib.Core.Logic.{◌↔◌, ◌⊎◌, ⊎_elim, inl, inr}
-use mathlib.Core.Option.{Option, none, some}
+use Rattle.std.specs.Prelude.{Option, None, Some}
 use mathlib.Mathlib.Data.Bool.Basic.{or-eq-false-eq-eq-false-and-eq-false}
 use native.Mathlib.Omega.{arith}
 use borrow.Author.Tests.{lt-ltb, le-ltb, ltb-true, ltb-false}
@@ -22,31 +22,31 @@ use Rattle.t1read.specs.declared.Reading.{Reading}
 -- The numbers
 
 -- the search's answer by its number
-found_3 : (o : Option ℕ) → eqb (number_of (found o)) 3 ≡ true → o ≡ none
-found_3 (some p) e = absurd (true≢false (sym e))
-found_3 none e = refl
+found_3 : (o : Option ℕ) → eqb (number_of (found o)) 3 ≡ true → o ≡ None
+found_3 (Some p) e = absurd (true≢false (sym e))
+found_3 None e = refl
 
-found_0 : (o : Option ℕ) → eqb (number_of (found o)) 3 ≡ false → (p : ℕ) × (o ≡ some p)
-found_0 (some p) e = (p, refl)
-found_0 none e = absurd (true≢false e)
+found_0 : (o : Option ℕ) → eqb (number_of (found o)) 3 ≡ false → (p : ℕ) × (o ≡ Some p)
+found_0 (Some p) e = (p, refl)
+found_0 None e = absurd (true≢false e)
 
 -- the place is the first that stands
-pub place_is : (s : List ℕ) (p : ℕ) → first_standing s ≡ some p → p ≡ place_in s
+pub place_is : (s : List ℕ) (p : ℕ) → first_standing s ≡ Some p → p ≡ place_in s
 unfolding place_in
 place_is s p e = sym (ap (λ o. place_of (found o)) e)
 
 -- two whole superframes at least lie from there on
-pub whole_is : (s : List ℕ) (p : ℕ) → first_standing s ≡ some p → (2 ≤ whole s p) × (p + 4632 * whole s p ≤ 8 * length s)
+pub whole_is : (s : List ℕ) (p : ℕ) → first_standing s ≡ Some p → (2 ≤ whole s p) × (p + 4632 * whole s p ≤ 8 * length s)
 unfolding whole
 whole_is s p e = let h = ((first_stands s p).0 e).stands.room in (omega arith, omega arith)
 
 -- where a place stands, there is a first
-pub some_stands : (s : List ℕ) (p : ℕ) → Stands s p → (q : ℕ) × (first_standing s ≡ some q)
+pub some_stands : (s : List ℕ) (p : ℕ) → Stands s p → (q : ℕ) × (first_standing s ≡ Some q)
 some_stands s p h = go (first_standing s) refl
   where
-    go : (o : Option ℕ) → first_standing s ≡ o → (q : ℕ) × (first_standing s ≡ some q)
-    go (some q) e = (q, e)
-    go none e = absurd ((none_stands s).0 e p h)
+    go : (o : Option ℕ) → first_standing s ≡ o → (q : ℕ) × (first_standing s ≡ Some q)
+    go (Some q) e = (q, e)
+    go None e = absurd ((none_stands s).0 e p h)
 
 module _ (s : List ℕ) (a b : ℕ) where
   -- an output is shorter than the call needs
@@ -85,7 +85,7 @@ module _ (s : List ℕ) (a b : ℕ) where
     )
 
     -- on which a place stands
-    module _ (p : ℕ) (e : first_standing s ≡ some p) where
+    module _ (p : ℕ) (e : first_standing s ≡ Some p) where
       pub refused_4 : short_output ≡ true → refusal s a b ≡ 4
       unfolding refusal
       refused_4 f = tells_first 4 (refusals s a b) refl (short_not, (long_not, (rw e, f)))

@@ -2,7 +2,7 @@
 #![tactic(auto)]
 
 ghost use Rattle.std.specs.Prelude.{◌≡◌, ◌++◌, ◌+◌, ◌*◌, ◌^◌, ◌<◌, ◌≤◌, length, drop};
-ghost use Rattle.std.proofs.Math.Option.{some};
+ghost use Rattle.std.specs.Prelude.{Some};
 ghost use Rattle.line.specs.Bit.{Room, octet_at};
 ghost use Rattle.base.specs.Tab.{tab};
 ghost use Rattle.line.specs.Spelt.{digit};
@@ -116,7 +116,7 @@ fn refused(number: u64) -> Reading
 
 // from the first place that stands
 fn read_from(image: &[u8], place: usize, payload: &mut [u8], link: &mut [u8]) -> Reading
-    requires { GoodLength image.now × (first_standing image.now ≡ some place) }
+    requires { GoodLength image.now × (first_standing image.now ≡ Some place) }
     ensures { Read image.now payload.old link.old
         result payload.new link.new }
 {

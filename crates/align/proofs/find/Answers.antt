@@ -2,7 +2,7 @@ use Prim.Native.Nat.{ℕ, ◌+◌, ◌*◌, ◌≤◌, ◌<◌, min}
 use mathlib.Core.Path.{◌≡◌, sym, ap₂, ◌∙◌}
 use mathlib.Core.Bool.{true≢false}
 use mathlib.Core.List.{List}
-use mathlib.Core.Option.{none}
+use Rattle.std.specs.Prelude.{None}
 use mathlib.Core.Logic.{inl, inr}
 use native.Mathlib.Decide.{dec_lt}
 use native.Mathlib.Omega.{arith}
@@ -30,7 +30,7 @@ module _ (s : List ℕ) (p first : ℕ) (before : (q : ℕ) → q < p → Wanted
   no_basic h q l b = before q l (inr (le-ltb first (8 * length s) h, b))
 
   -- so what is answered where no later place has room is right
-  nowhere : 8 * length s < p + 16384 → found none (when_so (ltb first (8 * length s)) first) ≡ found_in s
+  nowhere : 8 * length s < p + 16384 → found None (when_so (ltb first (8 * length s)) first) ≡ found_in s
   nowhere end =
       let stands : (q k : ℕ) → Stands s q k → ⊥ = λ q k h. none_before q (omega (arith, h.room)) k h in
       let basic : when_so (ltb first (8 * length s)) first ≡ first_basic s
@@ -65,12 +65,12 @@ module _ (s : List ℕ) (p first : ℕ) (before : (q : ℕ) → q < p → Wanted
             | yes l ↦ let e : first ≡ min first p = omega arith in rw e at (noted (omega arith))
             | no l ↦
                 let e : p ≡ min first p = omega arith in
-                let none : (q : ℕ) → q < p → Basic s q → ⊥
+                let None : (q : ℕ) → q < p → Basic s q → ⊥
                 = λ q g b. elim (dec_lt first (8 * length s)) [
                   | yes h ↦ (noted h).before q (omega arith) b
                   | no h ↦ no_basic (omega arith) q g b
                 ] in
-                let here : BasicFirst s p = record { room = room; basic = basic; before = none } in
+                let here : BasicFirst s p = record { room = room; basic = basic; before = None } in
                 rw e at here
           ]
 
@@ -125,5 +125,5 @@ returns-then-pair c =
       pair = (pair_holds s p k).0 (sym c.pair.ensures ∙ c.if-pair.true);
       least = c.loop-k.invariant.1;
     } in
-    let none = none_before s p first (onward_before s first c.search.p p c.search.invariant.1 c.onward-p.ensures.2) c.search.invariant.2 in
-    sym ((finds_at s p k).1 (record { stands = w; before = λ q j h. none q h j }))
+    let None = none_before s p first (onward_before s first c.search.p p c.search.invariant.1 c.onward-p.ensures.2) c.search.invariant.2 in
+    sym ((finds_at s p k).1 (record { stands = w; before = λ q j h. None q h j }))

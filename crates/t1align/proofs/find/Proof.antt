@@ -3,7 +3,7 @@
 use Prim.Native.Nat.{ℕ, ◌+◌, ◌-◌, ◌*◌, ◌%◌, ◌^◌, ◌≤◌, ◌<◌}
 use mathlib.Core.Path.{◌≡◌, refl, sym, ◌∙◌}
 use mathlib.Core.List.{List}
-use mathlib.Core.Option.{none}
+use Rattle.std.specs.Prelude.{None}
 use native.Mathlib.Decide.{dec_lt}
 use native.Mathlib.Omega.{arith}
 use borrow.Author.Tests.{le-leb, lt-leb}
@@ -43,7 +43,7 @@ zeros_fit : (x : ℕ) → Fits w64 (count_leading_zeros 64 x)
 zeros_fit x = omega (arith, leading_le 64 x)
 
 -- where no later place has room, none stands
-nowhere : (s : List ℕ) (p : ℕ) → NoneBefore s p → 8 * length s < p + 9264 → found none ≡ found_in s
+nowhere : (s : List ℕ) (p : ℕ) → NoneBefore s p → 8 * length s < p + 9264 → found None ≡ found_in s
 nowhere s p before end = sym ((finds_nothing s).1 (λ q h. before q (omega (arith, h.room)) h))
 
 -- in the window at octet i, whose places with both signals are known, and those that agree
@@ -149,11 +149,11 @@ loop_again c =
     let s = w.before.before.before.before.before.before.before.before.args.s.now in
     let i = w.onward-c.result.at in
     let h = stopped r.before in
-    let none : NoneBefore s (8 * i + 56)
+    let None : NoneBefore s (8 * i + 56)
     = past_zeros s i w.onward-c.result.places d.agreeing.result (omega arith) h.1 d.agreeing.ensures (none_passed w) 56
     (omega arith)
     (omega arith) in (
-      λ q g. none q (omega arith),
+      λ q g. None q (omega arith),
       (omega arith, omega arith, r.raw_on-raw.ensures.0, r.raw_on-raw.ensures.1),
       omega (arith, h.0, w.before.before.before.before.before.before.octets_with_room-end.ensures),
     )

@@ -2,7 +2,7 @@
 use Prim.Native.Nat.{ℕ, ◌-◌, ◌≤◌}
 use mathlib.Core.Path.{◌≡◌, refl, sym, ap, ◌∙◌}
 use mathlib.Core.List.{List}
-use mathlib.Core.Option.{none}
+use Rattle.std.specs.Prelude.{None}
 use native.Mathlib.Omega.{arith}
 use Rattle.base.specs.Tab.{first, least}
 use Rattle.base.proofs.ChoiceLaws.{denies}
@@ -14,12 +14,12 @@ use Rattle.align.proofs.ask.signalled.Statement.{statement}
 use Rattle.align.proofs.ask.signalled.Tie as tie
 
 abbrev invariant_loop : tie.invariant-loop-k
-invariant_loop s p k₀ k = (k ≤ 19) × (least k (pair_at s p) ≡ none)
+invariant_loop s p k₀ k = (k ≤ 19) × (least k (pair_at s p) ≡ None)
 
 abbrev decreases_loop : tie.decreases-loop-k
 decreases_loop s p k₀ k = 19 - k
 
-none_of_32 : (s : List ℕ) (p : ℕ) → least 19 (pair_at s p) ≡ none → least 32 (pair_at s p) ≡ none
+none_of_32 : (s : List ℕ) (p : ℕ) → least 19 (pair_at s p) ≡ None → least 32 (pair_at s p) ≡ None
 none_of_32 s p e =
     (no_k s p).1 (λ k h. denies (pair_holds s p k) (least_none 19 (pair_at s p) e k (pair_below s p k h)) h)
 
