@@ -1,10 +1,10 @@
 -- The place that is worked out is the one that the words of KIT §15 name, both ways.
 use Prim.Native.Nat.{ℕ, ◌+◌, ◌*◌, ◌≤◌}
-use mathlib.Core.Path.{◌≡◌, refl, sym, ap, ◌∙◌}
+use mathlib.Core.Path.{◌≡◌, sym, ◌∙◌}
 use mathlib.Core.Bool.{Bool, true, ◌&&◌, and-eq-true_iff}
 use mathlib.Core.List.{List}
 use mathlib.Core.Logic.{◌↔◌}
-use Rattle.std.specs.Prelude.{Option, None, Some}
+use Rattle.std.specs.Prelude.{None, Some}
 use Rattle.base.proofs.OptionLaws.{some-injective}
 use mathlib.Mathlib.Data.Bool.Basic.{eq-false_of_not-eq-true}
 use native.Mathlib.Omega.{arith}
@@ -16,9 +16,8 @@ use Rattle.base.proofs.TabLaws.{all_at, at_all, least_some, least_none, none_lea
 use Rattle.line.specs.Bit.{bit_at}
 use Rattle.line.specs.Signal.{signal}
 use Rattle.t1.specs.Superframe.{framing_at, framed, agrees}
-use Rattle.t1align.specs.Place.{standing, first_standing, found, found_in}
+use Rattle.t1align.specs.Place.{standing, first_standing}
 use Rattle.t1align.specs.Stands.{Framed, Stands, StandsFirst}
-use Rattle.t1align.specs.declared.Found.TheVariants.{At, Nothing}
 
 pub framed_holds : (s : List ℕ) (q : ℕ) → framed s q ≡ true ↔ Framed s q
 unfolding framed
@@ -85,19 +84,3 @@ module _ (s : List ℕ) where
   -- and the bits from it on are there
   pub first_within : (p : ℕ) → first_standing s ≡ Some p → p + 9264 ≤ 8 * length s
   first_within p e = ((first_stands p).0 e).stands.room
-
--- what the search answers, case by case
-pub found_at : (o : Option ℕ) (p : ℕ) → found o ≡ At p → o ≡ Some p
-found_at (Some q) p e = ap Some (cc)
-found_at None p e = let z : ◌≡◌ {A = ℕ} 0 1 = cc in absurd (omega arith)
-
-pub found_nothing : (o : Option ℕ) → found o ≡ Nothing → o ≡ None
-found_nothing (Some q) e = let z : ◌≡◌ {A = ℕ} 0 1 = cc in absurd (omega arith)
-found_nothing None e = refl
-
--- that is, the first place that stands, or nothing where none does
-pub finds_at : (s : List ℕ) (p : ℕ) → found_in s ≡ At p ↔ StandsFirst s p
-finds_at s p = (λ e. (first_stands s p).0 (found_at (first_standing s) p e), λ h. ap found ((first_stands s p).1 h))
-
-pub finds_nothing : (s : List ℕ) → found_in s ≡ Nothing ↔ ((p : ℕ) → Stands s p → ⊥)
-finds_nothing s = (λ e. (none_stands s).0 (found_nothing (first_standing s) e), λ h. ap found ((none_stands s).1 h))

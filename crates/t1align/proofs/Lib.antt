@@ -1,3 +1,4 @@
 pub mod Laws
 mod Sets
 mod Parts
+mod Firsts

@@ -1,20 +1,12 @@
 // The search for the first place of a T1 image that stands, 56 places at once.
 #![tactic(auto)]
 
-ghost use Rattle.std.specs.Prelude.{◌≡◌, ◌+◌, ◌-◌, ◌*◌, ◌%◌, ◌^◌, ◌<◌, ◌≤◌, leb, length};
-ghost use Rattle.base.specs.Choice.{when_so};
+ghost use Rattle.std.specs.Prelude.{◌≡◌, ◌+◌, ◌-◌, ◌*◌, ◌%◌, ◌^◌, ◌<◌, ◌≤◌, length};
 ghost use Rattle.line.specs.Bit.{Room};
-ghost use Rattle.t1align.specs.Place.{found, found_in};
+ghost use Rattle.t1align.specs.Place.{first_standing};
 ghost use Rattle.t1.specs.Raw.{raw};
 ghost use Rattle.t1sliced.specs.Sliced.{Exactly};
 ghost use Rattle.t1align.specs.Window.{HalfFramed, BothHalfFramed, BothFramed, FirstWindow};
-
-// the first place that stands, if there is one
-#[derive(Clone, Copy)]
-pub enum Found {
-    At { place: usize },
-    Nothing,
-}
 
 // A part is 1,158 octets of the image, two superframes. A set of its first 56 places is a number whose highest bit stands
 // for its place 0, the next for the next.
@@ -107,25 +99,14 @@ fn raw_on(s: &[u8], j: usize, at: u64, i: usize) -> u64
     r
 }
 
-// the place that the search came to, if it has room
-fn placed(p: usize, bits: usize) -> Found
-    requires { p < 2 ^ 63 }
-    ensures { result ≡ found (when_so (leb (p + 9264) bits) p) }
-{
-    if bits < p + 9264 {
-        return Found::Nothing;
-    }
-    Found::At { place: p }
-}
-
 // the first place that stands; checks are taken only in windows where both signals are
-pub fn find(s: &[u8]) -> Found
+pub fn find(s: &[u8]) -> Option<usize>
     requires { length s.now < 2 ^ 60 }
-    ensures { result ≡ found_in s.now }
+    ensures { result ≡ first_standing s.now }
 {
     let end = line::octets_with_room(s, 1158);
     if end == 0 {
-        return Found::Nothing;
+        return None;
     }
     let mut at = 0;
     let mut raw = t1::raw::of(&s[0..579]);
@@ -133,16 +114,17 @@ pub fn find(s: &[u8]) -> Found
     while i < end {
         let c = onward(s, i, end);
         if c.places == 0 {
-            return Found::Nothing;
+            return None;
         }
         i = c.at;
         raw = raw_on(s, at, raw, i);
         at = i;
         let o = u64::leading_zeros(c.places & t1sliced::agreeing(&s[i..i + 1158], raw)) as usize;
         if o < 56 {
-            return placed(8 * i + o, 8 * s.len());
+            let p = 8 * i + o;
+            return (p + 9264 <= 8 * s.len()).then_some(p);
         }
         i += 7;
     }
-    Found::Nothing
+    None
 }
