@@ -237,7 +237,7 @@ disagreeing_adds s p a b =
 
 -- A count over multiframes: it is 0 of none, is seen in a part, and adds up
 pub record Counts (X : List ℕ → ℕ → ℕ → ℕ) : Type 0 where
-  pub None : (s : List ℕ) (q : ℕ) → X s q 0 ≡ 0
+  pub none : (s : List ℕ) (q : ℕ) → X s q 0 ≡ 0
   pub seen : (s t : List ℕ) (d n : ℕ) → Sees s t d n → (a q g : ℕ) → a ≡ d + q → q + 4096 * g ≤ n → X s a g ≡ X t q g
   pub adds : (s : List ℕ) (q g n : ℕ) → X s q (g + n) ≡ X s q g + X s (q + 4096 * g) n
 
@@ -245,7 +245,7 @@ pub words_count : Counts word_errors
 unfolding word_errors sum
 words_count =
     record {
-      None = λ s q. refl;
+      none = λ s q. refl;
       seen = λ s t d n h a q g e l.
           sum_ext (8 * g) (λ i. if wrong s a i then 1 else 0) (λ i. if wrong t q i then 1 else 0)
           (λ i j. ap (λ b. if b then 1 else 0) (wrong_seen s t d n h a q i e (omega arith)));
@@ -260,7 +260,7 @@ pub bits_count : Counts word_bits
 unfolding word_bits sum
 bits_count =
     record {
-      None = λ s q. refl;
+      none = λ s q. refl;
       seen = λ s t d n h a q g e l.
           sum_ext (8 * g) (wrong_bits_of s a) (wrong_bits_of t q) (λ i j. wrong_bits_seen s t d n h a q i e (omega arith));
       adds = λ s q g n.
@@ -273,7 +273,7 @@ pub far_end_count : Counts far_end
 unfolding far_end sum
 far_end_count =
     record {
-      None = λ s q. refl;
+      none = λ s q. refl;
       seen = λ s t d n h a q g e l. sum_ext g (zeros_e s a) (zeros_e t q) (λ m j. zeros_seen s t d n h a q m e (omega arith));
       adds = λ s q g n. sum_later g n (zeros_e s q) (zeros_e s (q + 4096 * g)) (zeros_later s q g);
     }

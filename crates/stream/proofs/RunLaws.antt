@@ -243,8 +243,8 @@ module _ (s : List ℕ) where
   unfolding line_payload line_slot0
   left_at_once = by (found_in s) refl
     where
-      None : (f : Found) → found_in s ≡ f → 0 < number_of f → (left.payload ≡ line_payload s) × (left.slot0 ≡ line_slot0 s)
-      None f e h =
+      not_placed : (f : Found) → found_in s ≡ f → 0 < number_of f → (left.payload ≡ line_payload s) × (left.slot0 ≡ line_slot0 s)
+      not_placed f e h =
           let z : number_of (found_in s) ≡ 0 → ⊥ = λ z. omega (arith, ap number_of e) in
           let w = none_left s (omega (arith, ap number_of e)) in (
             w.0 ∙ sym (accepted_not (number_of (found_in s)) (payload_of s (start_in s) (used_in s)) [] z),
@@ -257,8 +257,8 @@ module _ (s : List ℕ) where
             a.payload ∙ sym (accepted_so (number_of (found_in s)) (payload_of s (start_in s) (used_in s)) [] (ap number_of e)),
             a.slot0 ∙ sym (accepted_so (number_of (found_in s)) (slot0_of s (start_in s) (used_in s)) [] (ap number_of e)),
           )
-      by (BasicAt p) e = None (BasicAt p) e (lit≤ tt)
-      by Nothing e = None Nothing e (lit≤ tt)
+      by (BasicAt p) e = not_placed (BasicAt p) e (lit≤ tt)
+      by Nothing e = not_placed Nothing e (lit≤ tt)
 
   -- What is held of it
 
@@ -306,12 +306,12 @@ module _ (s : List ℕ) where
         by (Some f) d =
             let n = length part in
             let z : from / 8 + n ≡ 0 + from / 8 + n = omega arith in
-            let None : length (drop n part) ≡ 0 = omega (arith, length-drop n part) in
+            let no_octets : length (drop n part) ≡ 0 = omega (arith, length-drop n part) in
             record {
               last = drop-drop n (from / 8) s ∙ ap (λ n. drop n s) z;
               before = λ h. absurd (omega (arith, from_late part bit 0 (whole part bit) f d));
-              short = omega (arith, None);
-              lost = λ h. None;
+              short = omega (arith, no_octets);
+              lost = λ h. no_octets;
             }
 
   pub follows : number_of (found_in s) ≡ 0 → Following left
