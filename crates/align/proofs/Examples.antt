@@ -3,7 +3,8 @@ use Prim.Native.Nat.{ℕ, ◌+◌, ◌-◌, ◌*◌, ◌/◌, ◌%◌}
 use mathlib.Core.Path.{◌≡◌, refl}
 use mathlib.Core.Bool.{cond}
 use mathlib.Core.List.{List, ◌∷◌}
-use Rattle.std.specs.Prelude.{None, Some}
+use Rattle.std.specs.Prelude.{None, Some, Ok, Err}
+use Rattle.base.specs.declared.Refused.TheVariants.{Place}
 use lib.Dec.{eqb, leb}
 use lib.ListN.{get_or}
 use Rattle.line.specs.Bit.{bit_at}
@@ -11,8 +12,8 @@ use Rattle.base.specs.Tab.{tab, tab_from, sum, all, first}
 use Rattle.line.specs.Signal.{signal}
 use Rattle.e1.specs.Frame.{wrong_bits, first_wrong}
 use Rattle.align.specs.Place.{basic, signal_at, pair_at, standing, first_standing}
-use Rattle.align.specs.Why.{judged, why_refusal, why}
-use Rattle.align.specs.declared.Why.TheVariants.{NoneFails, FirstWord, NoPair, Refused}
+use Rattle.align.specs.Why.{judged, why}
+use Rattle.align.specs.declared.Why.TheVariants.{NoneFails, FirstWord, NoPair}
 
 -- n octets: the word in every other frame; m(k) is 1 before a, and from there on the signal and two 0s over and over
 image : ℕ → ℕ → List ℕ
@@ -41,19 +42,19 @@ past_the_last_k : first_standing (image 19 2048) ≡ None
 unfolding image first_standing first standing basic pair_at signal_at all bit_at wrong_bits sum tab_from
 past_the_last_k = refl
 
-said_with_18 : why (image 18 2048) 0 ≡ NoneFails 18
-unfolding image why why_refusal judged first pair_at signal_at all bit_at wrong_bits sum tab_from
+said_with_18 : why (image 18 2048) 0 ≡ Ok (NoneFails 18)
+unfolding image why judged first pair_at signal_at all bit_at wrong_bits sum tab_from
 said_with_18 = refl
 
-said_of_19 : why (image 19 2048) 0 ≡ NoPair
-unfolding image why why_refusal judged first pair_at signal_at all bit_at wrong_bits sum tab_from
+said_of_19 : why (image 19 2048) 0 ≡ Ok NoPair
+unfolding image why judged first pair_at signal_at all bit_at wrong_bits sum tab_from
 said_of_19 = refl
 
 -- an octet of zeros: the first 1 of the word is not there
-said_of_zeros : why (image 0 2049) 8 ≡ FirstWord 11
-unfolding image why why_refusal judged first pair_at signal_at all bit_at wrong_bits first_wrong sum tab_from
+said_of_zeros : why (image 0 2049) 8 ≡ Ok (FirstWord 11)
+unfolding image why judged first pair_at signal_at all bit_at wrong_bits first_wrong sum tab_from
 said_of_zeros = refl
 
-too_late : why (image 0 2049) 9 ≡ Refused 14
-unfolding image why why_refusal tab_from
+too_late : why (image 0 2049) 9 ≡ Err Place
+unfolding image why tab_from
 too_late = refl

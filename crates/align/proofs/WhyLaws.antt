@@ -1,16 +1,17 @@
 -- What is said of a place is what the words of KIT §4 say, both ways.
-use Prim.Native.Nat.{ℕ, zero, suc, ◌+◌, ◌*◌, ◌≤◌, ◌<◌}
+use Prim.Native.Nat.{ℕ, suc, ◌+◌, ◌*◌, ◌≤◌, ◌<◌}
 use mathlib.Core.Path.{◌≡◌, refl, sym, ap, subst, ◌∙◌}
 use mathlib.Core.Bool.{Bool, true, false, cond, not}
-use mathlib.Core.List.{List}
-use mathlib.Core.Logic.Iff
+use mathlib.Core.List.{List, [], ◌∷◌}
 use mathlib.Core.Logic.{◌↔◌}
-use Rattle.std.specs.Prelude.{Option, None, Some}
+use Rattle.std.specs.Prelude.{Option, None, Some, Result, Ok, Err}
 use native.Mathlib.Omega.{arith}
 use borrow.Author.Tests.{eqb-true, eqb-false, eq-eqb, ne_eqb, ltb-true, ltb-false, lt-ltb, le-ltb, not-true, not-false}
-use lib.Dec.{eqb}
+use lib.Dec.{eqb, ltb}
 use lib.ListN.{length}
-use Rattle.base.specs.Answer.{accepted}
+use Rattle.base.specs.Answer.{◌when◌, first_number}
+use Rattle.base.specs.declared.Refused.{Refused}
+use Rattle.base.specs.declared.Refused.TheVariants.{TooShort, TooLong, Place}
 use Rattle.base.specs.Tab.{least}
 use Rattle.base.proofs.AnswerLaws.{Tells, first_tells}
 use Rattle.base.proofs.TabLaws.{Least}
@@ -20,10 +21,10 @@ use Rattle.e1.specs.Frame.{wrong_bit, word_at, first_wrong}
 use Rattle.e1.proofs.WordLaws.{word_holds, first_wrong_lem, first_only}
 use Rattle.align.specs.Place.{pair_at}
 use Rattle.align.specs.Stands.{Stands}
-use Rattle.align.specs.Why.{signalled, judged, why_refusals, why_refusal, why, why_number}
+use Rattle.align.specs.Why.{signalled, judged, why_refusals, why_refusal, why, why_values, why_number}
 use Rattle.align.specs.Says.{FirstWrong, Says}
 use Rattle.align.specs.declared.Why.{Why}
-use Rattle.align.specs.declared.Why.TheVariants.{NoneFails, FirstWord, Bit2, SecondWord, NoPair, Refused}
+use Rattle.align.specs.declared.Why.TheVariants.{NoneFails, FirstWord, Bit2, SecondWord, NoPair}
 use Rattle.align.proofs.Laws.{basic_parts, least_k, no_k}
 
 -- a word that is wrong, and its first wrong bit
@@ -82,7 +83,6 @@ module _ (s : List ℕ) (p : ℕ) (room : p + 16384 ≤ 8 * length s) where
   said_so NoPair h =
       let t = (basic_parts s p).1 h.0 in
       rw (t.0, t.1, t.2, (no_k s p).1 h.1)
-  said_so (Refused n) h = absurd h
 
   judged_says : (w : Why) → judged s p ≡ w ↔ Says s p w
   judged_says w = (λ e. subst (Says s p) e says_so, said_so w)
@@ -102,68 +102,75 @@ module _ (s : List ℕ) (p : ℕ) where
           let t = rw e at tells in
           (ltb-false (length s) 2048 t.0, ltb-false 8192 (length s) t.1.0, ltb-false (8 * length s) (p + 16384) t.1.1.0)
 
-  said_0 : (w : Why) → Says s p w → why_number w ≡ 0
-  unfolding Says
-  said_0 (NoneFails k) h = refl
-  said_0 (FirstWord b) h = refl
-  said_0 Bit2 h = refl
-  said_0 (SecondWord b) h = refl
-  said_0 NoPair h = refl
-  said_0 (Refused n) h = absurd h
-
+  -- the number that is answered is that of the table
   pub why_answers : why_number (why s p) ≡ why_refusal s p
+  unfolding why why_refusal
+  why_answers = go (ltb (length s) 2048) (ltb 8192 (length s)) (ltb (8 * length s) (p + 16384)) (judged s p)
+    where
+      go : (a b c : Bool) (w : Why)
+          → why_number (cond a (Err TooShort) (cond b (Err TooLong) (cond c (Err Place) (Ok w))))
+          ≡ first_number (1 when a ∷ 2 when b ∷ 14 when c ∷ [])
+      go true b c w = refl
+      go false true c w = refl
+      go false false true w = refl
+      go false false false (NoneFails k) = refl
+      go false false false (FirstWord b) = refl
+      go false false false Bit2 = refl
+      go false false false (SecondWord b) = refl
+      go false false false NoPair = refl
+
+  pub why_short : why s p ≡ Err TooShort ↔ length s < 2048
+  unfolding why why_refusal
+  why_short = (λ e. ltb-true (length s) 2048 (rw (number e) at tells), λ h. rw (lt-ltb (length s) 2048 h))
+    where
+      number : why s p ≡ Err TooShort → why_refusal s p ≡ 1
+      number e = sym why_answers ∙ ap why_number e
+
+  pub why_long : why s p ≡ Err TooLong ↔ 8192 < length s
+  unfolding why why_refusal
+  why_long = (
+    λ e. ltb-true 8192 (length s) (rw (number e) at tells).1,
+    λ h. rw (le-ltb (length s) 2048 (omega arith), lt-ltb 8192 (length s) h),
+  )
+    where
+      number : why s p ≡ Err TooLong → why_refusal s p ≡ 2
+      number e = sym why_answers ∙ ap why_number e
+
+  pub why_late : 2048 ≤ length s → length s ≤ 8192 → why s p ≡ Err Place ↔ 8 * length s < p + 16384
+  unfolding why why_refusal
+  why_late long short = (
+    λ e. ltb-true (8 * length s) (p + 16384) (rw (number e) at tells).1.1,
+    λ h. rw (le-ltb (length s) 2048 long, le-ltb 8192 (length s) short, lt-ltb (8 * length s) (p + 16384) h),
+  )
+    where
+      number : why s p ≡ Err Place → why_refusal s p ≡ 14
+      number e = sym why_answers ∙ ap why_number e
+
+  pub why_judged : why_refusal s p ≡ 0 → why s p ≡ Ok (judged s p)
   unfolding why
-  why_answers = go (why_refusal s p) refl
-    where
-      go : (n : ℕ) → why_refusal s p ≡ n → why_number (accepted n (judged s p) (Refused n)) ≡ n
-      go zero e = said_0 (judged s p) (says_so s p (asked.0 e).2)
-      go (suc n) e = refl
-
-  pub why_refused : (n : ℕ) → why s p ≡ Refused (suc n) ↔ why_refusal s p ≡ suc n
-  unfolding why
-  why_refused n = (λ e. sym why_answers ∙ ap why_number e, λ e. ap (λ m. accepted m (judged s p) (Refused m)) e)
-
-  pub why_short : why s p ≡ Refused 1 ↔ length s < 2048
-  unfolding why_refusal
-  why_short = Iff.trans (why_refused 0) number_1
-    where
-      number_1 : why_refusal s p ≡ 1 ↔ length s < 2048
-      number_1 = (λ e. ltb-true (length s) 2048 (rw e at tells), λ h. rw (lt-ltb (length s) 2048 h))
-
-  pub why_long : why s p ≡ Refused 2 ↔ 8192 < length s
-  unfolding why_refusal
-  why_long = Iff.trans (why_refused 1) number_2
-    where
-      number_2 : why_refusal s p ≡ 2 ↔ 8192 < length s
-      number_2 = (
-        λ e. ltb-true 8192 (length s) (rw e at tells).1,
-        λ h. rw (le-ltb (length s) 2048 (omega arith), lt-ltb 8192 (length s) h),
-      )
-
-  pub why_late : 2048 ≤ length s → length s ≤ 8192 → why s p ≡ Refused 14 ↔ 8 * length s < p + 16384
-  unfolding why_refusal
-  why_late long short = Iff.trans (why_refused 13) number_14
-    where
-      number_14 : why_refusal s p ≡ 14 ↔ 8 * length s < p + 16384
-      number_14 = (
-        λ e. ltb-true (8 * length s) (p + 16384) (rw e at tells).1.1,
-        λ h. rw (le-ltb (length s) 2048 long, le-ltb 8192 (length s) short, lt-ltb (8 * length s) (p + 16384) h),
-      )
-
-  pub why_judged : why_refusal s p ≡ 0 → why s p ≡ judged s p
-  unfolding why
-  why_judged e = ap (λ n. accepted n (judged s p) (Refused n)) e
+  why_judged e =
+      let a = asked.0 e in
+      rw (le-ltb (length s) 2048 a.0, le-ltb 8192 (length s) a.1, le-ltb (8 * length s) (p + 16384) a.2)
 
   -- each answer to an accepted call is given exactly when what it says holds
-  pub why_says : why_refusal s p ≡ 0 → (w : Why) → why s p ≡ w ↔ Says s p w
+  pub why_says : why_refusal s p ≡ 0 → (w : Why) → why s p ≡ Ok w ↔ Says s p w
   why_says e w =
       let says = judged_says s p (asked.0 e).2 w in
-      (λ h. says.0 (sym (why_judged e) ∙ h), λ h. why_judged e ∙ says.1 h)
+      (λ h. let same : Ok (judged s p) ≡ Ok w = sym (why_judged e) ∙ h in says.0 (cc), λ h. why_judged e ∙ ap Ok (says.1 h))
 
   -- that it stands is said of a place exactly when it does
-  pub why_stands : 2048 ≤ length s → length s ≤ 8192 → (k : ℕ) → why s p ≡ NoneFails k ↔ Stands s p k
+  pub why_stands : 2048 ≤ length s → length s ≤ 8192 → (k : ℕ) → why s p ≡ Ok (NoneFails k) ↔ Stands s p k
   unfolding Says
   why_stands long short k = (
     λ e. (why_says (sym why_answers ∙ ap why_number e) (NoneFails k)).0 e,
     λ h. (why_says (asked.1 (long, short, h.room)) (NoneFails k)).1 h,
   )
+
+-- a refusal is zeros beside its number
+pub why_zeros : (r : Result Why Refused) (n : ℕ) → why_number r ≡ suc n → why_values r ≡ suc n ∷ 0 ∷ 0 ∷ 0 ∷ []
+why_zeros (Ok (NoneFails k)) n e = absurd (omega arith)
+why_zeros (Ok (FirstWord b)) n e = absurd (omega arith)
+why_zeros (Ok Bit2) n e = absurd (omega arith)
+why_zeros (Ok (SecondWord b)) n e = absurd (omega arith)
+why_zeros (Ok NoPair) n e = absurd (omega arith)
+why_zeros (Err e) n h = ap (λ m. m ∷ 0 ∷ 0 ∷ 0 ∷ []) h

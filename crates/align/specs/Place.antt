@@ -63,7 +63,7 @@ found None None = Nothing
 abbrev pub found_in : List ℕ → Found
 found_in s = found (first_standing s) (first_basic s)
 
--- For each case its number and values: the place, and the multiframe start, p + 512k.
+-- For each case its number and values: the place, the k, and the multiframe start, p + 512k.
 
 abbrev pub number_of : Found → ℕ
 number_of (At p k) = 0
@@ -74,6 +74,11 @@ abbrev pub place_of : Found → ℕ
 place_of (At p k) = p
 place_of (BasicAt p) = p
 place_of Nothing = 0
+
+abbrev pub k_of : Found → ℕ
+k_of (At p k) = k
+k_of (BasicAt p) = 0
+k_of Nothing = 0
 
 abbrev pub start_of : Found → ℕ
 start_of (At p k) = p + 512 * k

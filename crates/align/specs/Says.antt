@@ -5,7 +5,7 @@ use Rattle.line.specs.Bit.{bit_at, field}
 use Rattle.e1.specs.Frame.{alignment}
 use Rattle.align.specs.Stands.{Basic, Pair, Stands}
 use Rattle.align.specs.declared.Why.{Why}
-use Rattle.align.specs.declared.Why.TheVariants.{NoneFails, FirstWord, Bit2, SecondWord, NoPair, Refused}
+use Rattle.align.specs.declared.Why.TheVariants.{NoneFails, FirstWord, Bit2, SecondWord, NoPair}
 
 -- the word in the frame at q is wrong, and b is the place of its first wrong bit
 pub record FirstWrong (s : List ℕ) (q b : ℕ) : Type 0 where
@@ -21,4 +21,3 @@ Says s p (FirstWord b) = FirstWrong s p b
 Says s p Bit2 = (field s (p + 1) 7 ≡ 27) × (bit_at s (p + 257) ≡ 0)
 Says s p (SecondWord b) = (field s (p + 1) 7 ≡ 27) × (bit_at s (p + 257) ≡ 1) × FirstWrong s (p + 512) b
 Says s p NoPair = Basic s p × ((k : ℕ) → Pair s p k → ⊥)
-Says s p (Refused n) = ⊥

@@ -6,6 +6,7 @@ ghost use Rattle.align.specs.Place.{pair_at};
 ghost use Rattle.align.specs.Why.{signalled, judged, why};
 
 use crate::Why;
+use base::Refused;
 
 // the least k, where there is one
 fn signalled(s: &[u8], p: usize) -> Why
@@ -42,18 +43,18 @@ fn judge(s: &[u8], p: usize) -> Why
 }
 
 // A place of an image is asked about.
-pub fn why(image: &[u8], place: u64) -> Why
+pub fn why(image: &[u8], place: u64) -> Result<Why, Refused>
     ensures { result ≡ why image.now place }
 {
     if image.len() < 2048 {
-        return Why::Refused { number: 1 };
+        return Err(Refused::TooShort);
     }
     if 8192 < image.len() {
-        return Why::Refused { number: 2 };
+        return Err(Refused::TooLong);
     }
     let p = place as usize;
     if 8 * image.len() - 16384 < p {
-        return Why::Refused { number: 14 };
+        return Err(Refused::Place);
     }
-    judge(image, p)
+    Ok(judge(image, p))
 }

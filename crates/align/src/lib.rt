@@ -7,7 +7,7 @@ ghost use Rattle.std.specs.Prelude.{◌≡◌, ◌+◌, ◌-◌, ◌*◌, ◌^�
 ghost use Rattle.std.specs.Prelude.{None};
 ghost use Rattle.base.specs.Choice.{when_so};
 ghost use Rattle.line.specs.Bit.{Room};
-ghost use Rattle.align.specs.Place.{basic, signal_at, again_at, pair_at, found, found_in};
+ghost use Rattle.align.specs.Place.{basic, signal_at, again_at, pair_at, found, found_in, place_of, k_of, start_of};
 ghost use Rattle.align.specs.Stands.{Basic};
 ghost use Rattle.align.specs.Window.{Holds, NoneFrom, Marks, SignalIn, Signals, Pairs, Paired, Wanted};
 
@@ -19,8 +19,40 @@ pub enum Found {
     Nothing,
 }
 
+impl Found {
+    pub fn place(self) -> usize
+        ensures { result ≡ place_of self }
+    {
+        match self {
+            Found::At { place, k: _ } => place,
+            Found::BasicAt { place } => place,
+            _ => 0,
+        }
+    }
+
+    pub fn k(self) -> usize
+        ensures { result ≡ k_of self }
+    {
+        match self {
+            Found::At { place: _, k } => k,
+            _ => 0,
+        }
+    }
+
+    // the multiframe start
+    pub fn start(self) -> usize
+        requires { start_of self < 2 ^ 60 }
+        ensures { result ≡ start_of self }
+    {
+        match self {
+            Found::At { place, k } => place + 512 * k,
+            _ => 0,
+        }
+    }
+}
+
 // what is said of a place: it stands, with its least k; or the first condition that fails, of a wrong word with the
-// place of its first wrong bit; or the call is refused
+// place of its first wrong bit
 #[derive(Clone, Copy)]
 pub enum Why {
     NoneFails { k: usize },
@@ -28,7 +60,6 @@ pub enum Why {
     Bit2,
     SecondWord { bit: usize },
     NoPair,
-    Refused { number: u64 },
 }
 
 // a window of the search: its octet, and its places that have basic alignment
