@@ -1,40 +1,70 @@
 -- Calls of `write`: what an accepted one was given, that two in a row make one line, and that any two results of one
 -- call are equal.
-use Rattle.std.specs.Prelude.{if◌then◌else◌}
-use Prim.Native.Nat.{ℕ, zero, suc, ◌+◌, ◌*◌, ◌%◌, ◌≤◌}
+use Rattle.std.specs.Prelude.{if◌then◌else◌, Result, Ok, Err}
+use Prim.Native.Nat.{ℕ, zero, suc, ◌+◌, ◌*◌, ◌%◌, ◌<◌, ◌≤◌}
 use mathlib.Core.Path.{◌≡◌, refl, sym, ap, ap₂, ◌∙◌}
-use mathlib.Core.Bool.{Bool, ◌&&◌, and-eq-true_iff}
+use mathlib.Core.Bool.{Bool, true, false, ◌&&◌, and-eq-true_iff}
 use mathlib.Core.List.{List, [], ◌∷◌, ◌++◌}
 use native.Mathlib.Decide.{dec_lt}
 use native.Mathlib.Omega.{arith}
-use borrow.Author.Tests.{not-false, ltb-true, ltb-false, leb-true, eqb-true}
+use borrow.Author.Tests.{lt-ltb, le-ltb, not-false, ltb-true, ltb-false, leb-true, eqb-true}
 use lib.Dec.{eqb, leb, ltb}
 use lib.ListN.{length, get_or, take, drop, get_or-eq_default}
 use lib.Seq.{take_at}
 use Rattle.base.specs.Tab.{all}
 use Rattle.base.proofs.TabLaws.{all_at}
-use Rattle.base.proofs.AnswerLaws.{accepted_single, joined_first, joined_then, first_tells}
+use Rattle.base.proofs.AnswerLaws.{accepted_so, accepted_not, accepted_single, joined_first, joined_then, first_tells}
 use Rattle.base.specs.Answer.{accepted, Refusal, ◌when◌, first_number}
+use Rattle.base.specs.Number.{refusal_number}
+use Rattle.base.proofs.NumberLaws.{refusal_above_0}
+use Rattle.base.specs.declared.Refused.{Refused}
 use Rattle.e1.specs.Payload.{multiframes, sized}
 use Rattle.write.specs.Writing.{carries, written}
-use Rattle.write.specs.Entry.{overhead_limit, overhead_fits, faults, no_room, refusals, refusal, accept, refuse, writing, Wrote}
+use Rattle.write.specs.Answer.{Written, accept, refuse, answered}
+use Rattle.write.specs.Entry.{overhead_limit, overhead_fits, faults, no_room, refusals, refusal, writing, Wrote}
 use Rattle.write.specs.Inputs.{Inputs}
 use Rattle.write.proofs.Laws.{limit_range, length_written}
+use Rattle.write.proofs.Answers.{answered_single, not_15}
 use Rattle.write.proofs.Joins.{carries_join, written_join}
-use Rattle.write.specs.declared.Written.{Written}
 
 -- the number: what is wrong with what is given comes first
 module _ (p o : List ℕ) (c m : ℕ) where
   abbrev last : List Refusal
   last = 4 when no_room p m ∷ []
 
-  pub fault_first : (n : ℕ) → n ≡ first_number (faults p o c) → (n ≡ 0 → ⊥) → n ≡ refusal p o c m
+  pub fault_first : (e : Refused) → refusal_number e ≡ first_number (faults p o c) → refusal_number e ≡ refusal p o c m
   unfolding refusal
-  fault_first n e h = sym (joined_first last (faults p o c) refl n e h)
+  fault_first e h = sym (joined_first last (faults p o c) refl (refusal_number e) h (refusal_above_0 e))
 
-  pub no_fault : first_number (faults p o c) ≡ 0 → (t : Bool) → no_room p m ≡ t → (if t then 4 else 0) ≡ refusal p o c m
+  no_fault : (t : Bool) → 0 ≡ first_number (faults p o c) → no_room p m ≡ t → (if t then 4 else 0) ≡ refusal p o c m
   unfolding refusal
-  no_fault z t e = sym (joined_then last (faults p o c) refl z ∙ ap (λ t. if t then 4 else 0) e)
+  no_fault t z e = sym (joined_then last (faults p o c) refl (sym z) ∙ ap (λ t. if t then 4 else 0) e)
+
+  pub room_short : 0 ≡ first_number (faults p o c) → m < 512 * multiframes p → 4 ≡ refusal p o c m
+  room_short z h = no_fault true z (lt-ltb _ _ h)
+
+  pub sound : 0 ≡ first_number (faults p o c) → 512 * multiframes p ≤ m → 0 ≡ refusal p o c m
+  sound z h = no_fault false z (le-ltb _ _ h)
+
+-- what a call answers
+module _ (p o : List ℕ) (c : ℕ) (out : List ℕ) where
+  abbrev number : ℕ
+  number = refusal p o c (length out)
+
+  pub refused : (e : Refused) → refusal_number e ≡ number → Wrote p o c out (answered (Err e)) out
+  unfolding writing
+  refused e h =
+      let n : number ≡ 0 → ⊥ = λ z. refusal_above_0 e (h ∙ z) in
+      record {
+        its_answer = ap refuse h ∙ sym (accepted_not number _ _ n);
+        its_out = sym (accepted_not (refusal_number e) _ out (refusal_above_0 e));
+      }
+
+  pub taken : (k : ℕ) (out' : List ℕ) → 0 ≡ number → k ≡ carries p o c (2 * multiframes p)
+      → out' ≡ written p o c (2 * multiframes p) ++ drop (512 * multiframes p) out
+      → Wrote p o c out (answered (Ok k)) out'
+  unfolding writing
+  taken k out' z ek eo = record { its_answer = ap accept ek ∙ sym (accepted_so number _ _ (sym z)); its_out = eo }
 
 -- what an accepted call was given, and its room of m octets
 pub record Fits (p o : List ℕ) (c m : ℕ) : Type 0 where
@@ -127,3 +157,9 @@ pub wrote_single : {p o : List ℕ} {c : ℕ} {out : List ℕ} {r r' : Written} 
 wrote_single w w' =
     let e = w.its_answer ∙ sym w'.its_answer in
     (e, accepted_single _ _ _ _ _ _ (ap (λ (x : Written). x.number) e) w.its_out w'.its_out)
+
+pub results_single : {p o : List ℕ} {c : ℕ} {out : List ℕ} {r s : Result ℕ Refused} {out' out'' : List ℕ}
+    → Wrote p o c out (answered r) out' → Wrote p o c out (answered s) out'' → r ≡ s
+unfolding refusal
+results_single {p} {o} {c} {out} {r} {s} w w' =
+    answered_single r s (not_15 (refusals p o c (length out)) (answered r).number refl (wrote_number w)) (wrote_single w w').0

@@ -14,11 +14,7 @@ use Rattle.base.specs.Tab.{tab}
 use Rattle.base.proofs.TabLaws.{length_tab, tab_agree, tab_split, tab_fill, fill_more}
 use Rattle.base.proofs.PartLaws.{take_put_more, part_length}
 use Rattle.e1.specs.Block.{block_check}
-use Rattle.e1.specs.Payload.{multiframes}
-use Rattle.base.proofs.AnswerLaws.{accepted_so, accepted_not}
 use Rattle.write.specs.Writing.{slot0, octet_in, block, carries, written}
-use Rattle.write.specs.Entry.{refusal, refuse, writing, Wrote}
-use Rattle.write.specs.declared.Written.{Written}
 use Rattle.write.specs.Inputs.{Inputs}
 use Rattle.write.proofs.Laws.{limit_range, length_block, length_written}
 use Rattle.write.proofs.Joins.{same_carries, same_written, later_carries, later_written}
@@ -168,29 +164,3 @@ module _ (p o : List ℕ) (c m : ℕ) where
     sym (take-append-drop (512 * m) xs) ∙ ap₂ (λ u v. u ++ v) q r ∙ ap (λ x. written p o c (2 * x) ++ drop (512 * x) xs₀) e,
     ek ∙ ap (λ x. carries p o c (2 * x)) e,
   )
-
--- what a call answers, m its number
-module _ (p o : List ℕ) (c : ℕ) (out : List ℕ) (m : ℕ) (e : m ≡ refusal p o c (length out)) where
-  abbrev n : ℕ
-  n = multiframes p
-
-  pub refused : (m ≡ 0 → ⊥) → Wrote p o c out (refuse m) out
-  unfolding writing
-  refused z =
-      record {
-        its_answer = ap refuse e ∙ sym (accepted_not (refusal p o c (length out)) _ _ (λ y. z (e ∙ y)));
-        its_out = sym (accepted_not m (written p o c (2 * n) ++ drop (512 * n) out) out z);
-      }
-
-  pub taken : (k : ℕ) (out' : List ℕ) → m ≡ 0 → k ≡ carries p o c (2 * n)
-      → out' ≡ written p o c (2 * n) ++ drop (512 * n) out
-      → Wrote p o c out (record { number = m; check = k }) out'
-  unfolding writing
-  taken k out' z ek eo =
-      record {
-        its_answer = ap₂ made z ek ∙ sym (accepted_so (refusal p o c (length out)) _ _ (sym e ∙ z));
-        its_out = eo ∙ sym (accepted_so m _ out z);
-      }
-    where
-      made : ℕ → ℕ → Written
-      made number check = record { number = number; check = check }

@@ -4,7 +4,7 @@ use Rattle.base.specs.Tab.{all}
 use Rattle.base.specs.Answer.{accepted, Refusal, ◌when◌, first_number}
 use Rattle.e1.specs.Payload.{multiframes, sized}
 use Rattle.write.specs.Writing.{carries, written}
-use Rattle.write.specs.declared.Written.{Written}
+use Rattle.write.specs.Answer.{Written, accept, refuse}
 
 -- the overhead octet of the odd frame 2h + 1 is below 64, or below 128 where it has an E bit, in frames 13 and 15
 abbrev pub overhead_limit : ℕ → ℕ
@@ -32,17 +32,10 @@ refusals p o c m = faults p o c ++ 4 when no_room p m ∷ []
 unfoldable pub refusal : List ℕ → List ℕ → ℕ → ℕ → ℕ
 refusal p o c m = first_number (refusals p o c m)
 
--- what an accepted call answers, the check of the last block, and what a refused one does
-abbrev pub accept : ℕ → Written
-accept check = record { number = 0; check = check }
-
-abbrev pub refuse : ℕ → Written
-refuse number = record { number = number; check = 0 }
-
 unfoldable pub writing : List ℕ → List ℕ → ℕ → ℕ → Written
 writing p o c m = accepted (refusal p o c m) (accept (carries p o c (2 * multiframes p))) (refuse (refusal p o c m))
 
--- what `write` returns, and leaves in the output
+-- what `write` answers, and leaves in the output
 pub record Wrote (p o : List ℕ) (c : ℕ) (out : List ℕ) (r : Written) (out' : List ℕ) : Type 0 where
   pub its_answer : r ≡ writing p o c (length out)
   pub its_out : out' ≡ accepted r.number (written p o c (2 * multiframes p) ++ drop (512 * multiframes p) out) out

@@ -7,15 +7,12 @@ ghost use Rattle.crc.specs.Fold.{remainders};
 ghost use Rattle.e1.specs.Block.{block_check};
 ghost use Rattle.write.specs.Writing.{bit1, slot0, block, carries, written};
 ghost use Rattle.base.specs.Answer.{first_number};
-ghost use Rattle.write.specs.Entry.{overhead_limit, overhead_fits, faults, refusal, Wrote};
+ghost use Rattle.base.specs.Number.{number_in};
+ghost use Rattle.write.specs.Answer.{answered};
+ghost use Rattle.write.specs.Entry.{overhead_limit, overhead_fits, faults, Wrote};
 ghost use Rattle.write.specs.Inputs.{Inputs};
 
-// what `write` answers: the number, 0 where the call is accepted, and the check of the last block
-#[derive(Clone, Copy)]
-pub struct Written {
-    pub number: u64,
-    pub check: u64,
-}
+use base::Refused;
 
 // the multiframe signal
 const SIGNAL: [u8; 6] = [0, 0, 1, 0, 1, 1];
@@ -156,48 +153,30 @@ fn overhead_fits(overhead: &[u8], n: usize) -> bool
     true
 }
 
-// what is wrong with what a call is given, by its number
-pub fn fault(payload: &[u8], overhead: &[u8], check: u64) -> u64
-    ensures { result ≡ first_number (faults payload.now overhead.now check) }
+// what is wrong with what a call is given
+pub fn fault(payload: &[u8], overhead: &[u8], check: u64) -> Result<(), Refused>
+    ensures { number_in result ≡ first_number (faults payload.now overhead.now check) }
 {
     if !e1::is_sized(payload.len()) {
-        return 5;
+        return Err(Refused::Payload);
     }
     if !overhead_fits(overhead, payload.len() / 496) {
-        return 6;
+        return Err(Refused::Overhead);
     }
     if 15 < check {
-        return 7;
+        return Err(Refused::Check);
     }
-    0
+    Ok(())
 }
 
-// the number, 0 where the call is accepted; m is how many octets the output has
-fn refusal(payload: &[u8], overhead: &[u8], check: u64, m: usize) -> u64
-    ensures { result ≡ refusal payload.now overhead.now check m }
+// whole multiframes from the payload and the overhead, the first block carrying check; and the check of the last block
+pub fn write(payload: &[u8], overhead: &[u8], check: u64, out: &mut [u8]) -> Result<u64, Refused>
+    ensures { Wrote payload.now overhead.now check out.old (answered result) out.new }
 {
-    let number = fault(payload, overhead, check);
-    if number != 0 {
-        return number;
+    fault(payload, overhead, check)?;
+    let n = payload.len() / 496;
+    if out.len() < 512 * n {
+        return Err(Refused::NoRoom);
     }
-    if m < 512 * (payload.len() / 496) {
-        return 4;
-    }
-    0
-}
-
-// whole multiframes from the payload and the overhead, the first block carrying check
-pub fn write(payload: &[u8], overhead: &[u8], check: u64, out: &mut [u8]) -> Written
-    ensures { Wrote payload.now overhead.now check out.old
-        result out.new }
-{
-    let number = refusal(payload, overhead, check, out.len());
-    if number != 0 {
-        return Written { number, check: 0 };
-    }
-    let last = write_all(payload, overhead, check as u8, payload.len() / 496, out);
-    Written {
-        number,
-        check: last as u64,
-    }
+    Ok(write_all(payload, overhead, check as u8, n, out) as u64)
 }
