@@ -5,7 +5,9 @@ ghost use Rattle.base.specs.Tab.{tab};
 ghost use Rattle.line.specs.Bit.{Room, bit_at, field};
 ghost use Rattle.line.specs.Spelt.{digit};
 ghost use Rattle.crc.specs.Remainder.{after};
-ghost use Rattle.crc.specs.Fold.{remainders, xors};
+ghost use Rattle.crc.specs.Fold.{xors};
+
+use crate::table::Remainders;
 
 // n windows added up, the first at octet i and each d octets on
 pub fn windows(s: &[u8], i: usize, n: usize, d: usize) -> u64
@@ -41,11 +43,11 @@ fn folded(s: &[u8], q: usize) -> u64
 }
 
 // the remainder of the 2,040 bits from place q on: that of the 15 digits, seven and eight
-pub fn after_rows(s: &[u8], q: usize, table: &[[u8; 256]; 16]) -> u8
-    requires { Room s.now q 2048 × (table.now ≡ remainders) }
+pub fn after_rows(s: &[u8], q: usize, table: &Remainders) -> u8
+    requires { Room s.now q 2048 }
     ensures { (result ≡ after 4 0 (tab 2040 (λ j. bit_at s.now (q + j)))) × (result < 16) }
 {
     let n = folded(s, q);
-    let r = crate::after_octet(0, (n / 256 % 128) as u8, table);
-    crate::after_octet(r, (n % 256) as u8, table)
+    let r = table.after_octet(0, (n / 256 % 128) as u8);
+    table.after_octet(r, (n % 256) as u8)
 }

@@ -1,5 +1,7 @@
 // The table of remainders.
-ghost use Rattle.std.specs.Prelude.{◌≡◌};
+ghost use Rattle.std.specs.Prelude.{◌≡◌, ◌<◌};
+ghost use Rattle.line.specs.Bit.{octet_bits};
+ghost use Rattle.crc.specs.Remainder.{zeros, after};
 ghost use Rattle.crc.specs.Fold.{remainders};
 
 // Row r has, for each octet, the remainder after it where it was r before.
@@ -134,9 +136,31 @@ const TABLE: [[u8; 256]; 16] = [
       \x07\x06\x05\x04\x03\x02\x01\x00\x0f\x0e\x0d\x0c\x0b\x0a\x09\x08\x04\x05\x06\x07\x00\x01\x02\x03\x0c\x0d\x0e\x0f\x08\x09\x0a\x0b",
 ];
 
-// the table, to be lent on: wherever the constant stands it is laid out anew
-pub fn remainders() -> [[u8; 256]; 16]
-    ensures { result ≡ remainders }
-{
-    TABLE
+// It is lent on: wherever the constant stands it is laid out anew.
+#[derive(Drop)]
+pub struct Remainders {
+    rows: [[u8; 256]; 16],
+    ghost computed: { rows ≡ remainders },
+}
+
+impl Remainders {
+    pub fn new() -> Remainders {
+        Remainders { rows: TABLE }
+    }
+
+    // the remainder after the eight bits of an octet
+    pub fn after_octet(&self, r: u8, o: u8) -> u8
+        requires { r < 16 }
+        ensures { (result ≡ after 4 r (octet_bits o)) × (result < 16) }
+    {
+        self.rows[r as usize][o as usize]
+    }
+
+    // the remainder after the four zeros behind a block, times x^4: r and the zeros are an octet
+    pub fn after_zeros(&self, r: u8) -> u8
+        requires { r < 16 }
+        ensures { (result ≡ after 4 r (zeros 4)) × (result < 16) }
+    {
+        self.after_octet(0, 16 * r)
+    }
 }

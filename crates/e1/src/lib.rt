@@ -4,10 +4,11 @@
 ghost use Rattle.std.specs.Prelude.{◌≡◌, [], ◌∷◌, ◌+◌, ◌*◌, ◌<◌, ◌≤◌};
 ghost use Rattle.line.specs.Bit.{Room, octet_bits};
 ghost use Rattle.line.specs.Spelt.{digit};
-ghost use Rattle.crc.specs.Fold.{remainders};
 ghost use Rattle.e1.specs.Frame.{wrong_bits, word_at, first_wrong};
 ghost use Rattle.e1.specs.Block.{block_check, carried, agrees};
 ghost use Rattle.e1.specs.Payload.{sized};
+
+use crc::table::Remainders;
 
 // the word in the frame at q judged: how many of its seven bits are wrong
 pub fn wrong_bits(s: &[u8], q: usize) -> u32
@@ -51,13 +52,13 @@ fn spaced(c: u8) -> u8
 
 // the check of the block at q, which carries c: the remainder of all its bits but the last octet, then of that octet, to
 // which the check bits are added once more so that they are gone, then of four zeros
-pub fn block_check(s: &[u8], q: usize, c: u8, table: &[[u8; 256]; 16]) -> u8
-    requires { Room s.now q 2048 × (c ≡ carried s.now q) × (table.now ≡ remainders) }
+pub fn block_check(s: &[u8], q: usize, c: u8, table: &Remainders) -> u8
+    requires { Room s.now q 2048 × (c ≡ carried s.now q) }
     ensures { (result ≡ block_check s.now q) × (result < 16) }
 {
     let r = crc::fold::after_rows(s, q, table);
     let last = line::octet(s, q + 2040) ^ spaced(c);
-    crc::after_zeros(crc::after_octet(r, last, table), table)
+    table.after_zeros(table.after_octet(r, last))
 }
 
 // C1 to C4, as the block at q carries them
@@ -74,8 +75,8 @@ pub fn carried(s: &[u8], q: usize) -> u8
 }
 
 // the block at q agrees with the check that the next one carries
-pub fn agrees(s: &[u8], q: usize, table: &[[u8; 256]; 16]) -> bool
-    requires { Room s.now q 4096 × (table.now ≡ remainders) }
+pub fn agrees(s: &[u8], q: usize, table: &Remainders) -> bool
+    requires { Room s.now q 4096 }
     ensures { result ≡ agrees s.now q }
 {
     block_check(s, q, carried(s, q), table) == carried(s, q + 2048)

@@ -21,13 +21,13 @@ use Rattle.measure.proofs.Runs.{loss_in}
 
 -- Searches in parts
 
-pub first_ext {ℓ} : {A : Type ℓ} (n : ℕ) (f g : ℕ → Option A) → ((i : ℕ) → i < n → f i ≡ g i) → first n f ≡ first n g
+pub first_ext : {A : Type 0} (n : ℕ) (f g : ℕ → Option A) → ((i : ℕ) → i < n → f i ≡ g i) → first n f ≡ first n g
 unfolding first
 first_ext zero f g h = refl
 first_ext (suc n) f g h = ap₂ or_else (first_ext n f g (λ i l. h i (omega arith))) (h n (omega arith))
 
 -- where none of the first a has any
-first_split {ℓ} : {A : Type ℓ} (a b : ℕ) (f : ℕ → Option A) → first a f ≡ None → first (a + b) f ≡ first b (λ i. f (a + i))
+first_split : {A : Type 0} (a b : ℕ) (f : ℕ → Option A) → first a f ≡ None → first (a + b) f ≡ first b (λ i. f (a + i))
 unfolding first
 first_split a zero f e = ap (λ n. first n f) (add-zero a) ∙ e
 first_split a (suc b) f e = ap (λ n. first n f) (add-suc a b) ∙ ap (λ o. or_else o (f (a + b))) (first_split a b f e)

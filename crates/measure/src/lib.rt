@@ -4,16 +4,16 @@
 
 ghost use Rattle.std.specs.Prelude.{if◌then◌else◌, ◌≡◌, ◌++◌, ◌+◌, ◌-◌, ◌*◌, ◌^◌, ◌<◌, ◌≤◌, eqb, length, drop};
 ghost use Rattle.line.specs.Bit.{Room};
-ghost use Rattle.measure.specs.Reading.{loss_from, lost_at, cause_of, used_of, slots, payload_of, slot0_of};
-ghost use Rattle.crc.specs.Fold.{remainders};
+ghost use Rattle.measure.specs.Reading.{loss_from, used_of, slots, payload_of, slot0_of};
 ghost use Rattle.measure.specs.Track.{Runs};
 ghost use Rattle.measure.specs.Reading.{word_errors, word_bits, compared, disagreeing, zeros_e, far_end};
+
+use crc::table::Remainders;
 
 // What the alignment words and bits 2 tell.
 #[derive(Clone, Copy)]
 pub struct Tracked {
-    pub lost: usize,
-    pub cause: u64,
+    pub loss: Option<usize>,
     pub used: usize,
     pub words: usize,
     pub wordbits: usize,
@@ -98,8 +98,7 @@ fn after_multiframes(s: &[u8], q: usize, h: usize) -> Tracking
 // once, and counts where its multiframe is whole
 pub fn track(s: &[u8], q: usize, h: usize, m: usize) -> Tracked
     requires { Room s.now q (4096 * m) × (h ≤ m) }
-    ensures { (result.lost ≡ lost_at (loss_from s.now q h m))
-        × (result.cause ≡ cause_of (loss_from s.now q h m))
+    ensures { (result.loss ≡ loss_from s.now q h m)
         × (result.used ≡ used_of (loss_from s.now q h m) m)
         × (h ≤ result.used)
         × (result.used ≤ m)
@@ -114,8 +113,7 @@ pub fn track(s: &[u8], q: usize, h: usize, m: usize) -> Tracked
             t = after_word(t, e1::wrong_bits(s, q + 256 * (2 * i)));
             if t.wordrun == 3 {
                 return Tracked {
-                    lost: 2 * i,
-                    cause: 1,
+                    loss: Some(2 * i),
                     used: g,
                     words: words,
                     wordbits: wordbits,
@@ -124,8 +122,7 @@ pub fn track(s: &[u8], q: usize, h: usize, m: usize) -> Tracked
             t = after_bit2(t, line::bit(s, q + 256 * (2 * i + 1) + 1));
             if t.bit2run == 3 {
                 return Tracked {
-                    lost: 2 * i + 1,
-                    cause: 2,
+                    loss: Some(2 * i + 1),
                     used: g,
                     words: words,
                     wordbits: wordbits,
@@ -136,8 +133,7 @@ pub fn track(s: &[u8], q: usize, h: usize, m: usize) -> Tracked
         wordbits = t.wordbits;
     }
     Tracked {
-        lost: 0,
-        cause: 0,
+        loss: None,
         used: m,
         words: words,
         wordbits: wordbits,
@@ -228,8 +224,8 @@ pub fn far_end(s: &[u8], q: usize, g: usize) -> usize
 
 // how many of n blocks from p on do not agree, by the table; each check is taken once, and what a block carries is read
 // once
-pub fn judge_by(s: &[u8], p: usize, n: usize, table: &[[u8; 256]; 16]) -> usize
-    requires { (1 ≤ n → Room s.now p (2048 * n + 2048)) × (table.now ≡ remainders) }
+pub fn judge_by(s: &[u8], p: usize, n: usize, table: &Remainders) -> usize
+    requires { 1 ≤ n → Room s.now p (2048 * n + 2048) }
     ensures { result ≡ disagreeing s.now p n }
 {
     if n == 0 {
@@ -256,6 +252,5 @@ pub fn judge(s: &[u8], p: usize, n: usize) -> usize
     if n == 0 {
         return 0;
     }
-    let table = crc::table::remainders();
-    judge_by(s, p, n, &table)
+    judge_by(s, p, n, &Remainders::new())
 }

@@ -34,7 +34,7 @@ room h k = record { countable = h; there = k }
 -- there are blocks, and room for them
 roomy : (c : tie.Else-n-eq0 invariant_loop decreases_loop)
     → (let a = c.before.before.args in Room a.s.now a.p (2048 * a.n + 2048))
-roomy c = c.before.before.requires.0 (omega (arith, c.if-n-eq0.false))
+roomy c = c.before.before.requires (omega (arith, c.if-n-eq0.false))
 
 returns : tie.Need-returns-then-n-eq0 invariant_loop decreases_loop
 unfolding sum
@@ -54,7 +54,7 @@ block_check_requires c κs =
     let l = c.before in
     let d = l.before.before in
     let r = roomy d in
-    (room r.countable (omega (arith, r.there)), l.loop-b.invariant.1, d.before.before.requires.1)
+    (room r.countable (omega (arith, r.there)), l.loop-b.invariant.1)
 
 add_errored : tie.Need-overflow_add-errored invariant_loop decreases_loop
 add_errored c =

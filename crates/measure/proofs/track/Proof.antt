@@ -1,9 +1,9 @@
 -- `track` meets its contract: at the head of the outer loop g multiframes have gone by, at that of the inner one i words
 -- and i bits 2, and no loss is among them.
-use Prim.Native.Nat.{◌+◌, ◌-◌, ◌*◌, ◌/◌, ◌%◌, ◌^◌, ◌≤◌, ◌<◌}
+use Prim.Native.Nat.{◌+◌, ◌-◌, ◌*◌, ◌/◌, ◌^◌, ◌≤◌, ◌<◌}
 use mathlib.Core.Path.{◌≡◌, refl, sym, ap, ◌∙◌, subst}
 use native.Mathlib.Omega.{arith}
-use Rattle.measure.specs.Reading.{lost_at, cause_of, used_of, word_errors, word_bits}
+use Rattle.measure.specs.Reading.{used_of, word_errors, word_bits}
 use Rattle.measure.proofs.Runs.{short}
 use Rattle.measure.proofs.Tracks.{Passed, none_passed, count_below, bits_below, multiframes_passed, none_yet}
 use Rattle.measure.proofs.Tracks.{lost_by_word, word_passed, lost_by_bit2, bit2_passed}
@@ -54,10 +54,8 @@ returns c =
     let a = l.before.before.before.args in
     let i = l2.loop-i.i in
     let e = lost_by_word l2.loop-i.invariant.2 w.before.wrong_bits.ensures.0 w.after_word-t.ensures c.if-t-eq3.true a.m (omega arith) in
-    let even : 1 ≡ 1 + 2 * i % 2 = omega arith in
     let held : l.loop-g.g ≡ 2 * i / 16 = omega arith in (
-      sym (ap lost_at e),
-      even ∙ sym (ap cause_of e),
+      sym e,
       held ∙ sym (ap (λ o. used_of o a.m) e),
       l.loop-g.invariant.0,
       l.loop-g.invariant.1,
@@ -90,10 +88,8 @@ returns_2 c =
     let a = l.before.before.before.args in
     let i = l2.loop-i.i in
     let e = lost_by_bit2 (gone d) w.before.bit.ensures.0 w.after_bit2-t.ensures c.if-t-eq3-2.true a.m (omega arith) (omega arith) in
-    let odd : 2 ≡ 1 + (2 * i + 1) % 2 = omega arith in
     let held : l.loop-g.g ≡ (2 * i + 1) / 16 = omega arith in (
-      sym (ap lost_at e),
-      odd ∙ sym (ap cause_of e),
+      sym e,
       held ∙ sym (ap (λ o. used_of o a.m) e),
       l.loop-g.invariant.0,
       l.loop-g.invariant.1,
@@ -122,8 +118,7 @@ returns_3 c =
     let i = l.loop-g.invariant in
     let e = none_yet i.2 a.m (omega arith) (omega arith) (omega arith) in
     let d : l.loop-g.g ≡ a.m = omega arith in (
-      sym (ap lost_at e),
-      sym (ap cause_of e),
+      sym e,
       sym (ap (λ o. used_of o a.m) e),
       omega arith,
       omega arith,
