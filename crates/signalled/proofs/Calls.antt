@@ -1,20 +1,24 @@
 -- Calls of `write_signalled`: what an accepted one was given, that it is `write`'s with slot 16 replaced, and that any two
 -- results of one call are equal.
-use Rattle.std.specs.Prelude.{if◌then◌else◌}
-use Prim.Native.Nat.{ℕ, zero, suc, ◌*◌, ◌%◌, ◌≤◌}
+use Rattle.std.specs.Prelude.{if◌then◌else◌, Result, Ok, Err}
+use Prim.Native.Nat.{ℕ, zero, suc, ◌*◌, ◌%◌, ◌<◌, ◌≤◌}
 use mathlib.Core.Path.{◌≡◌, refl, sym, ap, ap₂, ◌∙◌}
-use mathlib.Core.Bool.{Bool, ◌&&◌, not, and-eq-true_iff}
+use mathlib.Core.Bool.{Bool, true, false, ◌&&◌, not, and-eq-true_iff}
 use mathlib.Core.List.{List, ◌++◌}
-use borrow.Author.Tests.{not-false, leb-true}
+use borrow.Author.Tests.{lt-ltb, le-ltb, not-false, leb-true}
 use lib.Dec.{eqb, leb}
 use lib.ListN.{length, drop}
 use Rattle.base.specs.Answer.{accepted, Refusal, first_number}
+use Rattle.base.specs.Number.{refusal_number}
+use Rattle.base.proofs.NumberLaws.{refusal_above_0}
+use Rattle.base.specs.declared.Refused.{Refused}
 use Rattle.base.proofs.AnswerLaws.{accepted_so, accepted_not, accepted_single, joined_first, joined_then, first_tells, tells_first}
 use Rattle.e1.specs.Payload.{multiframes, sized}
 use Rattle.write.specs.Writing.{carries, written}
 use Rattle.write.specs.Entry as write
-use Rattle.write.specs.Entry.{faults, no_room, accept, refuse}
-use Rattle.write.specs.declared.Written.{Written}
+use Rattle.write.specs.Entry.{faults, no_room}
+use Rattle.write.specs.Answer.{Written, accept, refuse, answered}
+use Rattle.write.proofs.Answers.{answered_single, not_15}
 use Rattle.write.proofs.Calls as plain
 use Rattle.signalled.specs.Slot16.{with_slot16, signals_fit}
 use Rattle.signalled.specs.Entry.{refusals, refusal, writing, Wrote}
@@ -22,11 +26,11 @@ use Rattle.signalled.specs.Given.{Given}
 use Rattle.signalled.proofs.Laws.{given, with_length, with_multiframes}
 
 -- without a fault it is 16 multiframes at most
-pub faultless : (p o : List ℕ) (c : ℕ) → first_number (faults p o c) ≡ 0 → multiframes p ≤ 16
+pub faultless : (p o : List ℕ) (c : ℕ) → 0 ≡ first_number (faults p o c) → multiframes p ≤ 16
 unfolding sized
 faultless p o c z =
     let n = multiframes p in
-    let t = rw z at (first_tells (faults p o c) refl) in
+    let t = rw (sym z) at (first_tells (faults p o c) refl) in
     let a = (and-eq-true_iff (eqb (length p % 496) 0) (leb 1 n && leb n 16)).0 (not-false _ t.0) in
     leb-true n 16 ((and-eq-true_iff (leb 1 n) (leb n 16)).0 a.1).1
 
@@ -35,19 +39,29 @@ module _ (p o : List ℕ) (c : ℕ) (xy v : List ℕ) (m : ℕ) where
   abbrev last : List Refusal
   last = drop 3 (refusals p o c xy v m)
 
-  pub fault_first : (n : ℕ) → n ≡ first_number (faults p o c) → (n ≡ 0 → ⊥) → n ≡ refusal p o c xy v m
+  pub fault_first : (e : Refused) → refusal_number e ≡ first_number (faults p o c) → refusal_number e ≡ refusal p o c xy v m
   unfolding refusal
-  fault_first n e h = sym (joined_first last (faults p o c) refl n e h)
+  fault_first e h = sym (joined_first last (faults p o c) refl (refusal_number e) h (refusal_above_0 e))
 
   abbrev number : Bool → Bool → ℕ
   number s t = if s then 16 else if t then 4 else 0
 
-  pub no_fault : first_number (faults p o c) ≡ 0 → (s t : Bool) → not (signals_fit xy v (multiframes p)) ≡ s → no_room p m ≡ t
+  no_fault : (s t : Bool) → 0 ≡ first_number (faults p o c) → not (signals_fit xy v (multiframes p)) ≡ s → no_room p m ≡ t
       → number s t ≡ refusal p o c xy v m
   unfolding refusal
-  no_fault z s t e k =
+  no_fault s t z e k =
       let h : first_number last ≡ number (not (signals_fit xy v (multiframes p))) (no_room p m) = refl in
-      sym (joined_then last (faults p o c) refl z ∙ h ∙ ap₂ number e k)
+      sym (joined_then last (faults p o c) refl (sym z) ∙ h ∙ ap₂ number e k)
+
+  pub no_signals : 0 ≡ first_number (faults p o c) → signals_fit xy v (multiframes p) ≡ false → 16 ≡ refusal p o c xy v m
+  no_signals z e = no_fault true (no_room p m) z (ap not e) refl
+
+  module _ (z : 0 ≡ first_number (faults p o c)) (e : signals_fit xy v (multiframes p) ≡ true) where
+    pub room_short : m < 512 * multiframes p → 4 ≡ refusal p o c xy v m
+    room_short h = no_fault false true z (ap not e) (lt-ltb _ _ h)
+
+    pub sound : 512 * multiframes p ≤ m → 0 ≡ refusal p o c xy v m
+    sound h = no_fault false false z (ap not e) (le-ltb _ _ h)
 
   -- what an accepted call was given
   plain_refusal : write.refusal (with_slot16 p xy v) o c m ≡ write.refusal p o c m
@@ -71,34 +85,28 @@ module _ (p o : List ℕ) (c : ℕ) (xy v : List ℕ) (m : ℕ) where
         plain.accepted_call (with_slot16 p xy v) o c m (plain_refusal ∙ plain_accepts z),
       )
 
--- what a call answers, m its number
-module _ (p o : List ℕ) (c : ℕ) (xy v out : List ℕ) (m : ℕ) (e : m ≡ refusal p o c xy v (length out)) where
-  abbrev n : ℕ
-  n = multiframes p
+-- what a call answers
+module _ (p o : List ℕ) (c : ℕ) (xy v out : List ℕ) where
+  abbrev its_number : ℕ
+  its_number = refusal p o c xy v (length out)
 
   abbrev q : List ℕ
   q = with_slot16 p xy v
 
-  pub refused : (m ≡ 0 → ⊥) → Wrote p o c xy v out (refuse m) out
+  pub refused : (e : Refused) → refusal_number e ≡ its_number → Wrote p o c xy v out (answered (Err e)) out
   unfolding writing
-  refused z =
+  refused e h =
+      let n : its_number ≡ 0 → ⊥ = λ z. refusal_above_0 e (h ∙ z) in
       record {
-        its_answer = ap refuse e ∙ sym (accepted_not (refusal p o c xy v (length out)) _ _ (λ y. z (e ∙ y)));
-        its_out = sym (accepted_not m (written q o c (2 * n) ++ drop (512 * n) out) out z);
+        its_answer = ap refuse h ∙ sym (accepted_not its_number _ _ n);
+        its_out = sym (accepted_not (refusal_number e) _ out (refusal_above_0 e));
       }
 
-  pub taken : (k : ℕ) (out' : List ℕ) → m ≡ 0 → k ≡ carries q o c (2 * n)
-      → out' ≡ written q o c (2 * n) ++ drop (512 * n) out
-      → Wrote p o c xy v out (record { number = m; check = k }) out'
+  pub taken : (k : ℕ) (out' : List ℕ) → 0 ≡ its_number → k ≡ carries q o c (2 * multiframes p)
+      → out' ≡ written q o c (2 * multiframes p) ++ drop (512 * multiframes p) out
+      → Wrote p o c xy v out (answered (Ok k)) out'
   unfolding writing
-  taken k out' z ek eo =
-      record {
-        its_answer = ap₂ made z ek ∙ sym (accepted_so (refusal p o c xy v (length out)) _ _ (sym e ∙ z));
-        its_out = eo ∙ sym (accepted_so m _ out z);
-      }
-    where
-      made : ℕ → ℕ → Written
-      made number check = record { number = number; check = check }
+  taken k out' z ek eo = record { its_answer = ap accept ek ∙ sym (accepted_so its_number _ _ (sym z)); its_out = eo }
 
 module _ {p o : List ℕ} {c : ℕ} {xy v out : List ℕ} {r : Written} {out' : List ℕ} (w : Wrote p o c xy v out r out') where
   abbrev answer : ℕ → Written
@@ -146,3 +154,9 @@ pub wrote_single : {p o : List ℕ} {c : ℕ} {xy v out : List ℕ} {r r' : Writ
 wrote_single w w' =
     let e = w.its_answer ∙ sym w'.its_answer in
     (e, accepted_single _ _ _ _ _ _ (ap (λ (x : Written). x.number) e) w.its_out w'.its_out)
+
+pub results_single : {p o : List ℕ} {c : ℕ} {xy v out : List ℕ} {r s : Result ℕ Refused} {out' out'' : List ℕ}
+    → Wrote p o c xy v out (answered r) out' → Wrote p o c xy v out (answered s) out'' → r ≡ s
+unfolding refusal
+results_single {p} {o} {c} {xy} {v} {out} {r} {s} w w' =
+    answered_single r s (not_15 (refusals p o c xy v (length out)) (answered r).number refl (wrote_number w)) (wrote_single w w').0

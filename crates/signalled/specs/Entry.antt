@@ -4,8 +4,8 @@ use Rattle.std.specs.Prelude.{ℕ, ◌*◌, not, List, [], ◌∷◌, ◌++◌, 
 use Rattle.base.specs.Answer.{accepted, Refusal, ◌when◌, first_number}
 use Rattle.e1.specs.Payload.{multiframes}
 use Rattle.write.specs.Writing.{carries, written}
-use Rattle.write.specs.Entry.{faults, no_room, accept, refuse}
-use Rattle.write.specs.declared.Written.{Written}
+use Rattle.write.specs.Answer.{Written, accept, refuse}
+use Rattle.write.specs.Entry.{faults, no_room}
 use Rattle.signalled.specs.Slot16.{with_slot16, signals_fit}
 
 -- m is how many octets the output has
@@ -20,7 +20,7 @@ writing p o c xy v m =
     let n = refusal p o c xy v m in
     accepted n (accept (carries (with_slot16 p xy v) o c (2 * multiframes p))) (refuse n)
 
--- what `write_signalled` returns, and leaves in the output
+-- what `write_signalled` answers, and leaves in the output
 pub record Wrote (p o : List ℕ) (c : ℕ) (xy v out : List ℕ) (r : Written) (out' : List ℕ) : Type 0 where
   pub its_answer : r ≡ writing p o c xy v (length out)
   pub its_out : out'

@@ -5,10 +5,13 @@ ghost use Rattle.std.specs.Prelude.{◌≡◌, [], ◌∷◌, ◌++◌, ◌*◌,
 ghost use Rattle.crc.specs.Fold.{remainders};
 ghost use Rattle.e1.specs.Block.{block_check};
 ghost use Rattle.write.specs.Writing.{block, carries, written};
+ghost use Rattle.write.specs.Answer.{answered};
 ghost use Rattle.write.specs.Inputs.{Inputs};
 ghost use Rattle.signalled.specs.Slot16.{slot16, with_slot16, nibbles, signals_fit};
-ghost use Rattle.signalled.specs.Entry.{refusal, Wrote};
+ghost use Rattle.signalled.specs.Entry.{Wrote};
 ghost use Rattle.signalled.specs.Given.{Given};
+
+use base::Refused;
 
 // n octets, each from low to 15
 fn nibbles(octets: &[u8], n: usize, low: u8) -> bool
@@ -32,25 +35,6 @@ fn signals_fit(xy: &[u8], abcd: &[u8], n: usize) -> bool
     ensures { result ≡ signals_fit xy.now abcd.now n }
 {
     nibbles(xy, n, 0) & nibbles(abcd, 30 * n, 1)
-}
-
-// the number, 0 where the call is accepted; m is how many octets the output has
-fn refusal(payload: &[u8], overhead: &[u8], check: u64, xy: &[u8], abcd: &[u8], m: usize) -> u64
-    ensures { result ≡ refusal payload.now overhead.now check
-        xy.now abcd.now m }
-{
-    let number = write::fault(payload, overhead, check);
-    if number != 0 {
-        return number;
-    }
-    let n = payload.len() / 496;
-    if !signals_fit(xy, abcd, n) {
-        return 16;
-    }
-    if m < 512 * n {
-        return 4;
-    }
-    0
 }
 
 // slot 16 of frame i of a multiframe
@@ -155,7 +139,7 @@ fn write_all(payload: &[u8], overhead: &[u8], k: u8, xy: &[u8], abcd: &[u8], out
 }
 
 // whole multiframes from the payload and the overhead, the first block carrying check, with the signalling of xy and abcd
-// in slot 16
+// in slot 16; and the check of the last block
 pub fn write_signalled(
     payload: &[u8],
     overhead: &[u8],
@@ -163,17 +147,17 @@ pub fn write_signalled(
     xy: &[u8],
     abcd: &[u8],
     out: &mut [u8],
-) -> write::Written
+) -> Result<u64, Refused>
     ensures { Wrote payload.now overhead.now check xy.now abcd.now
-        out.old result out.new }
+        out.old (answered result) out.new }
 {
-    let number = refusal(payload, overhead, check, xy, abcd, out.len());
-    if number != 0 {
-        return write::Written { number, check: 0 };
+    write::fault(payload, overhead, check)?;
+    let n = payload.len() / 496;
+    if !signals_fit(xy, abcd, n) {
+        return Err(Refused::Signalling);
     }
-    let last = write_all(payload, overhead, check as u8, xy, abcd, out);
-    write::Written {
-        number,
-        check: last as u64,
+    if out.len() < 512 * n {
+        return Err(Refused::NoRoom);
     }
+    Ok(write_all(payload, overhead, check as u8, xy, abcd, out) as u64)
 }
