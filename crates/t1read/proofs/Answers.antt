@@ -2,16 +2,28 @@
 use Prim.Native.Nat.{ℕ, ◌-◌, ◌*◌, ◌/◌, ◌≤◌}
 use mathlib.Core.Path.{◌≡◌, sym, ap, ap₂, ◌∙◌}
 use mathlib.Core.List.{List, ◌++◌}
-use Rattle.std.specs.Prelude.{Some}
+use Rattle.std.specs.Prelude.{Result, Err, Some}
+use mathlib.Core.Bool.{false, ◌||◌}
+use mathlib.Mathlib.Data.Bool.Basic.{or-eq-false-eq-eq-false-and-eq-false}
 use native.Mathlib.Omega.{arith}
+use borrow.Author.Tests.{ltb-false}
+use lib.Dec.{ltb}
 use lib.ListN.{length, drop}
 use Rattle.base.proofs.AnswerLaws.{accepted_so}
 use Rattle.line.specs.Bit.{Room}
 use Rattle.t1align.specs.Place.{first_standing}
 use Rattle.t1read.specs.Reading.{whole, payload_of, link_of, compared, errored}
 use Rattle.t1read.specs.Entry.{GoodLength, place_in, whole_in, refusal, accept, refuse, reading, Read}
-use Rattle.t1read.specs.declared.Reading.{Reading}
+use Rattle.t1read.specs.Answer.{Reading}
 use Rattle.t1read.proofs.EntryLaws.{place_is, whole_is}
+
+pub same_error : {T E : Type 0} {d e : E} → ◌≡◌ {A = Result T E} (Err d) (Err e) → d ≡ e
+same_error h = cc
+
+pub neither_shorter : {a b n m : ℕ} → ltb a n || ltb b m ≡ false → (n ≤ a) × (m ≤ b)
+neither_shorter {a} {b} {n} {m} h =
+    let f = (or-eq-false-eq-eq-false-and-eq-false (ltb a n) (ltb b m)).0 h in
+    (ltb-false _ _ f.0, ltb-false _ _ f.1)
 
 pub record Measured (s : List ℕ) (p m : ℕ) : Type 0 where
   pub at : p ≡ place_in s
@@ -33,14 +45,14 @@ module _ (s : List ℕ) (good : GoodLength s) (p : ℕ) (e : first_standing s �
         room = record { countable = omega arith; there = omega arith };
       }
 
-  pub answered : (payload link payload' link' : List ℕ) (n : ℕ)
+  pub accepted_as : (payload link payload' link' : List ℕ) (n : ℕ)
       → refusal s (length payload) (length link) ≡ 0
       → n ≡ errored s p m
       → payload' ≡ payload_of s p m ++ drop (576 * m) payload
       → link' ≡ link_of s p m ++ drop (12 * m) link
       → Read s payload link (record { number = 0; place = p; whole = m; compared = m - 1; errored = n }) payload' link'
   unfolding reading accept errored
-  answered payload link payload' link' n z h₁ h₂ h₃ =
+  accepted_as payload link payload' link' n z h₁ h₂ h₃ =
       let d = measured in
       let so : Reading
       = record { number = 0; place = p; whole = m; compared = m - 1; errored = n } in

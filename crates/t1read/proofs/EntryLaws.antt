@@ -4,36 +4,36 @@ use mathlib.Core.Path.{◌≡◌, refl, sym, ap, subst, ◌∙◌}
 use mathlib.Core.Bool.{Bool, true, false, ◌||◌, true≢false, or-true}
 use mathlib.Core.List.{List}
 use mathlib.Core.Logic.{◌↔◌, ◌⊎◌, ⊎_elim, inl, inr}
-use Rattle.std.specs.Prelude.{Option, None, Some}
+use Rattle.std.specs.Prelude.{Option, None, Some, is_none}
+use Rattle.base.specs.Choice.{value_or}
 use mathlib.Mathlib.Data.Bool.Basic.{or-eq-false-eq-eq-false-and-eq-false}
 use native.Mathlib.Omega.{arith}
 use borrow.Author.Tests.{lt-ltb, le-ltb, ltb-true, ltb-false}
-use lib.Dec.{eqb, ltb}
+use lib.Dec.{ltb}
 use lib.ListN.{length}
 use Rattle.base.specs.Answer.{accepted}
 use Rattle.base.proofs.AnswerLaws.{accepted_so, accepted_single, Tells, first_tells, tells_first}
-use Rattle.t1align.specs.Place.{found, number_of, place_of, first_standing}
+use Rattle.t1align.specs.Place.{first_standing}
 use Rattle.t1align.specs.Stands.{Stands, StandsFirst}
 use Rattle.t1align.proofs.Laws.{first_stands, none_stands}
 use Rattle.t1read.specs.Reading.{whole}
 use Rattle.t1read.specs.Entry.{GoodLength, place_in, whole_in, refusals, refusal, accept, refuse, reading, Read}
-use Rattle.t1read.specs.declared.Reading.{Reading}
+use Rattle.t1read.specs.Answer.{Reading}
 
 -- The numbers
 
--- the search's answer by its number
-found_3 : (o : Option ℕ) → eqb (number_of (found o)) 3 ≡ true → o ≡ None
-found_3 (Some p) e = absurd (true≢false (sym e))
-found_3 None e = refl
+found_none : (o : Option ℕ) → is_none o ≡ true → o ≡ None
+found_none (Some p) e = absurd (true≢false (sym e))
+found_none None e = refl
 
-found_0 : (o : Option ℕ) → eqb (number_of (found o)) 3 ≡ false → (p : ℕ) × (o ≡ Some p)
-found_0 (Some p) e = (p, refl)
-found_0 None e = absurd (true≢false e)
+found_some : (o : Option ℕ) → is_none o ≡ false → (p : ℕ) × (o ≡ Some p)
+found_some (Some p) e = (p, refl)
+found_some None e = absurd (true≢false e)
 
 -- the place is the first that stands
 pub place_is : (s : List ℕ) (p : ℕ) → first_standing s ≡ Some p → p ≡ place_in s
 unfolding place_in
-place_is s p e = sym (ap (λ o. place_of (found o)) e)
+place_is s p e = sym (ap (λ o. value_or o 0) e)
 
 -- two whole superframes at least lie from there on
 pub whole_is : (s : List ℕ) (p : ℕ) → first_standing s ≡ Some p → (2 ≤ whole s p) × (p + 4632 * whole s p ≤ 8 * length s)
@@ -80,7 +80,7 @@ module _ (s : List ℕ) (a b : ℕ) where
     pub number_3 : refusal s a b ≡ 3 ↔ ((p : ℕ) → Stands s p → ⊥)
     unfolding refusal
     number_3 = (
-      λ e. (none_stands s).0 (found_3 (first_standing s) (rw e at tells).1.1),
+      λ e. (none_stands s).0 (found_none (first_standing s) (rw e at tells).1.1),
       λ h. tells_first 3 (refusals s a b) refl (short_not, (long_not, rw ((none_stands s).1 h))),
     )
 
@@ -118,7 +118,7 @@ pub record Ready (s : List ℕ) (a b : ℕ) : Type 0 where
 pub ready : (s : List ℕ) (a b : ℕ) → refusal s a b ≡ 0 → Ready s a b
 ready s a b e =
     let t = rw e at (tells s a b) in
-    let w = found_0 (first_standing s) t.1.1.0 in
+    let w = found_some (first_standing s) t.1.1.0 in
     let p = place_is s w.0 w.1 in
     let f = (or-eq-false-eq-eq-false-and-eq-false (ltb a (576 * whole_in s)) (ltb b (12 * whole_in s))).0 t.1.1.1.0 in
     record {

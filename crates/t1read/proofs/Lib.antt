@@ -2,3 +2,4 @@ pub mod EntryLaws
 mod FilledLaws
 mod Judged
 mod Answers
+pub mod AnswerLaws

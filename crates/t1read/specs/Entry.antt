@@ -1,18 +1,19 @@
 -- What `read` answers, and what it leaves in the two outputs (KIT §15).
-use Rattle.std.specs.Prelude.{ℕ, ◌*◌, ◌≤◌, ◌||◌, ◌≡◌, List, [], ◌∷◌, ◌++◌, eqb, ltb, length, drop}
+use Rattle.std.specs.Prelude.{ℕ, ◌*◌, ◌≤◌, ◌||◌, ◌≡◌, List, [], ◌∷◌, ◌++◌, is_none, ltb, length, drop}
 use Rattle.base.specs.Answer.{accepted, Refusal, ◌when◌, first_number}
-use Rattle.t1align.specs.Place.{found_in, number_of, place_of}
+use Rattle.base.specs.Choice.{value_or}
+use Rattle.t1align.specs.Place.{first_standing}
 use Rattle.t1read.specs.Reading.{whole, payload_of, link_of, compared, errored}
-use Rattle.t1read.specs.declared.Reading.{Reading}
+use Rattle.t1read.specs.Answer.{Reading}
 
 -- 1,158 to 8,192 octets
 pub record GoodLength (s : List ℕ) : Type 0 where
   pub long : 1158 ≤ length s
   pub short : length s ≤ 8192
 
--- the place and the whole superframes of an image
+-- the place of an image, 0 where none stands, and its whole superframes
 unfoldable pub place_in : List ℕ → ℕ
-place_in s = place_of (found_in s)
+place_in s = value_or (first_standing s) 0
 
 abbrev pub whole_in : List ℕ → ℕ
 whole_in s = whole s (place_in s)
@@ -22,7 +23,7 @@ abbrev pub refusals : List ℕ → ℕ → ℕ → List Refusal
 refusals s a b =
     1 when ltb (length s) 1158
     ∷ 2 when ltb 8192 (length s)
-    ∷ 3 when eqb (number_of (found_in s)) 3
+    ∷ 3 when is_none (first_standing s)
     ∷ 4 when (ltb a (576 * whole_in s) || ltb b (12 * whole_in s))
     ∷ []
 

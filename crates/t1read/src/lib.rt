@@ -2,21 +2,21 @@
 #![tactic(auto)]
 
 ghost use Rattle.std.specs.Prelude.{◌≡◌, ◌++◌, ◌+◌, ◌*◌, ◌^◌, ◌<◌, ◌≤◌, length, drop};
-ghost use Rattle.std.specs.Prelude.{Some};
 ghost use Rattle.line.specs.Bit.{Room, octet_at};
 ghost use Rattle.base.specs.Tab.{tab};
 ghost use Rattle.line.specs.Spelt.{digit};
 ghost use Rattle.t1.specs.Superframe.{super_check};
 ghost use Rattle.t1.specs.Raw.{framing_of};
-ghost use Rattle.t1align.specs.Place.{first_standing};
 ghost use Rattle.t1read.specs.Reading.{payload_of, link_of, errored};
 ghost use Rattle.t1read.specs.Filled.{filled, every_eighth};
-ghost use Rattle.t1read.specs.Entry.{Read, GoodLength, refuse};
+ghost use Rattle.t1read.specs.Answer.{answered};
+ghost use Rattle.t1read.specs.Entry.{Read};
 
-// What is read: the number is 0, or the refusal's with zeros beside it.
+use base::Refused;
+
+// what is read
 #[derive(Clone, Copy)]
 pub struct Reading {
-    pub number: u64,
     pub place: usize,
     pub whole: usize,
     pub compared: usize,
@@ -101,54 +101,28 @@ fn judge(s: &[u8], q: usize, n: usize, link: &mut [u8]) -> usize
     errored
 }
 
-// a refusal: zeros beside the number
-fn refused(number: u64) -> Reading
-    ensures { result ≡ refuse number }
-{
-    Reading {
-        number: number,
-        place: 0,
-        whole: 0,
-        compared: 0,
-        errored: 0,
-    }
-}
-
-// from the first place that stands
-fn read_from(image: &[u8], place: usize, payload: &mut [u8], link: &mut [u8]) -> Reading
-    requires { GoodLength image.now × (first_standing image.now ≡ Some place) }
+// An image is read: its payload and its data link go to the two outputs.
+pub fn read(image: &[u8], payload: &mut [u8], link: &mut [u8]) -> Result<Reading, Refused>
     ensures { Read image.now payload.old link.old
-        result payload.new link.new }
+        (answered result) payload.new link.new }
 {
+    if image.len() < 1158 {
+        return Err(Refused::TooShort);
+    }
+    if 8192 < image.len() {
+        return Err(Refused::TooLong);
+    }
+    let place = t1align::find(image).ok_or(Refused::NoFrames)?;
     let whole = (8 * image.len() - place) / 4632;
     if (payload.len() < 576 * whole) | (link.len() < 12 * whole) {
-        return refused(4);
+        return Err(Refused::NoRoom);
     }
     payload_of(image, place, whole, payload);
     let errored = judge(image, place, whole, link);
-    Reading {
-        number: 0,
+    Ok(Reading {
         place,
         whole,
         compared: whole - 1,
         errored,
-    }
-}
-
-// An image is read: its payload and its data link go to the two outputs.
-pub fn read(image: &[u8], payload: &mut [u8], link: &mut [u8]) -> Reading
-    ensures { Read image.now payload.old link.old
-        result payload.new link.new }
-{
-    if image.len() < 1158 {
-        return refused(1);
-    }
-    if 8192 < image.len() {
-        return refused(2);
-    }
-    let found = t1align::find(image);
-    match found {
-        t1align::Found::At { place } => read_from(image, place, payload, link),
-        t1align::Found::Nothing => refused(3),
-    }
+    })
 }
