@@ -17,11 +17,11 @@ use Rattle.align.specs.Stands.{StandsFirst}
 use Rattle.align.specs.declared.Found.{Found}
 use Rattle.align.specs.declared.Found.TheVariants.{At, BasicAt, Nothing}
 use Rattle.align.proofs.Laws.{first_stands, first_within}
-use Rattle.read.specs.Entry.{GoodLength, refuse, refused_place, reading, accept, unplaced, refusals, refusal, place_in, start_in}
+use Rattle.read.specs.Entry.{GoodLength, refused_place, reading, accept, unplaced, refusals, refusal, place_in, start_in}
 use Rattle.read.specs.Entry.{whole_in, used_in, Read}
 use Rattle.measure.proofs.Laws.{whole_fits}
 use Rattle.measure.proofs.LossLaws.{used_le}
-use Rattle.read.specs.declared.Reading.{Reading}
+use Rattle.read.specs.Answer.{Reading, refuse}
 
 -- The numbers
 

@@ -1,12 +1,15 @@
 -- What `read` answers, and what it leaves in the two outputs (KIT §5).
 use Rattle.std.specs.Prelude.{if◌then◌else◌, ℕ, ◌*◌, ◌≤◌, ◌||◌, ◌≡◌, List, [], ◌∷◌, ◌++◌, eqb, ltb, length, drop}
-use Rattle.std.specs.Prelude.{Option}
+use Rattle.std.specs.Prelude.{Option, Result, Ok, Err}
 use Rattle.align.specs.Place.{found_in, number_of, place_of, start_of}
 use Rattle.base.specs.Answer.{accepted, Refusal, ◌when◌, first_number}
+use Rattle.base.specs.Number.{refusal_number, refusal_place}
+use Rattle.base.specs.declared.Refused.{Refused}
 use Rattle.measure.specs.Reading.{whole, loss, lost_at, cause_of, used_of, payload_of, slot0_of, word_errors, word_bits}
 use Rattle.measure.specs.Reading.{compared, errored, far_end}
 use Rattle.read.specs.declared.Located.{Located}
-use Rattle.read.specs.declared.Reading.{Reading}
+use Rattle.read.specs.Answer.{Reading}
+pub use Rattle.read.specs.Answer.{refuse}
 
 -- 2,048 to 8,192 octets
 pub record GoodLength (s : List ℕ) : Type 0 where
@@ -63,24 +66,6 @@ accept s =
       cause = cause_of (loss_in s);
     }
 
--- a refusal: zeros beside the number and the place
-abbrev pub refuse : ℕ → ℕ → Reading
-refuse n p =
-    record {
-      number = n;
-      place = p;
-      start = 0;
-      whole = 0;
-      used = 0;
-      lost = 0;
-      words = 0;
-      compared = 0;
-      errored = 0;
-      farend = 0;
-      wordbits = 0;
-      cause = 0;
-    }
-
 -- the place beside the number n: number 15 alone has one, the first place with basic alignment
 abbrev pub refused_place : List ℕ → ℕ → ℕ
 refused_place s n = if eqb n 15 then place_in s else 0
@@ -98,27 +83,21 @@ pub record Read (s payload slot0 : List ℕ) (r : Reading) (payload' slot0' : Li
   pub its_slot0 : slot0'
       ≡ accepted r.number (slot0_of s (start_in s) (used_in s) ++ drop (16 * used_in s) slot0) slot0
 
--- Where an image is read from, and how far, as `locate` answers it: what every such entry begins with.
-
-abbrev pub found : List ℕ → Located
-found s =
+-- Where an image is read from, and how far: what every entry that reads it from the first place that stands begins with.
+unfoldable pub located : List ℕ → Located
+located s =
     record {
-      number = 0;
       place = place_in s;
       start = start_in s;
       whole = whole_in s;
       used = used_in s;
-      lost = lost_at (loss_in s);
+      loss = loss_in s;
       words = word_errors s (start_in s) (used_in s);
       wordbits = word_bits s (start_in s) (used_in s);
-      cause = cause_of (loss_in s);
     }
 
-abbrev pub nowhere : ℕ → ℕ → Located
-nowhere n p =
-    record { number = n; place = p; start = 0; whole = 0; used = 0; lost = 0; words = 0; wordbits = 0; cause = 0 }
-
-unfoldable pub located : List ℕ → Located
-located s =
-    let n = first_number (unplaced s) in
-    accepted n (found s) (nowhere n (refused_place s n))
+-- `locate` answers that, or the refusal that applies
+abbrev pub Locates : List ℕ → Result Located Refused → Type 0
+Locates s (Ok l) = (first_number (unplaced s) ≡ 0) × (l ≡ located s)
+Locates s (Err e) =
+    (first_number (unplaced s) ≡ refusal_number e) × (refusal_place e ≡ refused_place s (refusal_number e))

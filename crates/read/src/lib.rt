@@ -4,75 +4,57 @@
 ghost use Rattle.std.specs.Prelude.{◌≡◌};
 ghost use Rattle.std.specs.Prelude.{Some};
 ghost use Rattle.align.specs.Place.{first_standing};
-ghost use Rattle.read.specs.Entry.{Read, GoodLength, refuse, nowhere, located};
+ghost use Rattle.measure.specs.Reading.{lost_at, cause_of};
+ghost use Rattle.read.specs.Answer.{answered};
+ghost use Rattle.read.specs.Entry.{Read, GoodLength, located, Locates};
 
-// What is read: the number is 0, or the refusal's with zeros beside it; with 15 the place is that of `Found::BasicAt`.
+use align::Found;
+use base::Refused;
+
+// What is read.
 #[derive(Clone, Copy)]
 pub struct Reading {
-    pub number: u64,
     pub place: usize,
     pub start: usize,
     pub whole: usize,
     pub used: usize,
-    pub lost: usize,
+    pub loss: Option<usize>,
     pub words: usize,
     pub compared: usize,
     pub errored: usize,
     pub farend: usize,
     pub wordbits: usize,
-    pub cause: u64,
 }
 
-// Where an image is read from, and how far: the number is 0, or the refusal's with zeros beside it; with 15 the place is
-// that of `Found::BasicAt`.
+impl Reading {
+    // the frame of the loss, 0 where there is none
+    pub fn lost(&self) -> usize
+        ensures { result ≡ lost_at self.now.loss }
+    {
+        self.loss.unwrap_or(0)
+    }
+
+    // its cause: 1 by words, at an even frame, 2 by bits 2, at an odd one; 0 where there is no loss
+    pub fn cause(&self) -> u64
+        ensures { result ≡ cause_of self.now.loss }
+    {
+        match self.loss {
+            Some(f) => 1 + f as u64 % 2,
+            None => 0,
+        }
+    }
+}
+
+// Where an image is read from, and how far.
 #[derive(Clone, Copy)]
 pub struct Located {
-    pub number: u64,
     pub place: usize,
     pub start: usize,
     pub whole: usize,
     pub used: usize,
-    pub lost: usize,
+    pub loss: Option<usize>,
     pub words: usize,
     pub wordbits: usize,
-    pub cause: u64,
-}
-
-// a refusal: zeros beside the number and the place
-fn refused(number: u64, at: usize) -> Reading
-    ensures { result ≡ refuse number at }
-{
-    Reading {
-        number: number,
-        place: at,
-        start: 0,
-        whole: 0,
-        used: 0,
-        lost: 0,
-        words: 0,
-        compared: 0,
-        errored: 0,
-        farend: 0,
-        wordbits: 0,
-        cause: 0,
-    }
-}
-
-// it is read from nowhere
-fn nowhere(number: u64, at: usize) -> Located
-    ensures { result ≡ nowhere number at }
-{
-    Located {
-        number: number,
-        place: at,
-        start: 0,
-        whole: 0,
-        used: 0,
-        lost: 0,
-        words: 0,
-        wordbits: 0,
-        cause: 0,
-    }
 }
 
 // from the first place that stands, with its least k
@@ -84,67 +66,59 @@ fn located_at(image: &[u8], place: usize, k: usize) -> Located
     let whole = (8 * image.len() - start) / 4096;
     let tracked = measure::track(image, start, 0, whole);
     Located {
-        number: 0,
-        place: place,
-        start: start,
-        whole: whole,
+        place,
+        start,
+        whole,
         used: tracked.used,
-        lost: tracked.lost,
+        loss: tracked.loss,
         words: tracked.words,
         wordbits: tracked.wordbits,
-        cause: tracked.cause,
     }
 }
 
 // The first place that stands in an image, and what is used from there on.
-pub fn locate(image: &[u8]) -> Located
-    ensures { result ≡ located image.now }
+pub fn locate(image: &[u8]) -> Result<Located, Refused>
+    ensures { Locates image.now result }
 {
     if image.len() < 2048 {
-        return nowhere(1, 0);
+        return Err(Refused::TooShort);
     }
     if 8192 < image.len() {
-        return nowhere(2, 0);
+        return Err(Refused::TooLong);
     }
-    let found = align::find(image);
-    match found {
-        align::Found::At { place, k } => located_at(image, place, k),
-        align::Found::BasicAt { place } => nowhere(15, place),
-        align::Found::Nothing => nowhere(3, 0),
+    match align::find(image) {
+        Found::At { place, k } => Ok(located_at(image, place, k)),
+        Found::BasicAt { place } => Err(Refused::NoSignals { place }),
+        Found::Nothing => Err(Refused::NoFrames),
     }
 }
 
 // An image is read: its payload and its slots 0 go to the two outputs.
-pub fn read(image: &[u8], payload: &mut [u8], slot0: &mut [u8]) -> Reading
+pub fn read(image: &[u8], payload: &mut [u8], slot0: &mut [u8]) -> Result<Reading, Refused>
     ensures { Read image.now payload.old slot0.old
-        result payload.new slot0.new }
+        (answered result) payload.new slot0.new }
 {
-    let located = locate(image);
-    if located.number != 0 {
-        return refused(located.number, located.place);
-    }
+    let located = locate(image)?;
     let start = located.start;
     let used = located.used;
     if (payload.len() < 496 * used) | (slot0.len() < 16 * used) {
-        return refused(4, 0);
+        return Err(Refused::NoRoom);
     }
     let compared = measure::compared(used);
     let errored = measure::judge(image, start, compared);
     let farend = measure::far_end(image, start, used);
     measure::payload_of(image, start, used, payload);
     measure::slot0_of(image, start, used, slot0);
-    Reading {
-        number: 0,
+    Ok(Reading {
         place: located.place,
-        start: start,
+        start,
         whole: located.whole,
-        used: used,
-        lost: located.lost,
+        used,
+        loss: located.loss,
         words: located.words,
-        compared: compared,
-        errored: errored,
-        farend: farend,
+        compared,
+        errored,
+        farend,
         wordbits: located.wordbits,
-        cause: located.cause,
-    }
+    })
 }
