@@ -1,7 +1,6 @@
 // Why something failed, in the system's words.
 ghost use Rattle.std.specs.Prelude.{◌≤◌, length};
 
-use crate::text::limited;
 use std::io::{Cursor, Error, Write};
 
 // the place behind the words: the number of an error of the system comes behind them, in brackets, and is left out
@@ -11,18 +10,17 @@ fn words_end(text: &[u8], is_numbered: bool) -> usize
     if !is_numbered {
         return text.len();
     }
-    match text.iter().rposition(|x| *x == b'(') {
-        Some(k) => k.saturating_sub(1),
-        None => text.len(),
-    }
+    text.iter()
+        .rposition(|x| *x == b'(')
+        .map_or(text.len(), |k| k.saturating_sub(1))
 }
 
 // on a descriptor, with no line end
-pub fn print_reason(fd: i32, error: Error) -> bool {
+pub fn print_reason(fd: i32, error: Error) {
     let mut room = Cursor::new([0u8; 256]);
-    let written = write!(room, "{error}");
-    let n = limited(room.position(), 256);
+    let _ = write!(room, "{error}");
+    let n = (room.position() as usize).min(256);
     let text = room.into_inner();
     let e = words_end(&text[..n], error.raw_os_error().is_some());
-    written.is_ok() & io::write_all(fd, &text[..e])
+    io::write_all(fd, &text[..e]);
 }
