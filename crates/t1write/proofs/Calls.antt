@@ -24,7 +24,7 @@ use Rattle.t1write.specs.Inputs.{OfBits, Inputs}
 use Rattle.t1write.proofs.Laws.{length_written}
 use Rattle.t1write.proofs.Joins.{carries_join, written_join}
 use Rattle.t1write.proofs.Signals.{length_signals}
-use Rattle.t1write.specs.declared.Written.{Written}
+use Rattle.t1write.specs.Answer.{Written}
 
 -- n octets of 0 or 1
 pub bits_are : (o : List ℕ) (n : ℕ) → are_bits o n ≡ true ↔ OfBits o n

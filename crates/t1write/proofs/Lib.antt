@@ -5,3 +5,4 @@ pub mod Calls
 mod Framing
 mod Words
 mod Parts
+pub mod AnswerLaws

@@ -4,7 +4,7 @@ use Rattle.base.specs.Tab.{all}
 use Rattle.base.specs.Answer.{accepted, Refusal, ◌when◌, first_number}
 use Rattle.t1.specs.Payload.{superframes, sized}
 use Rattle.t1write.specs.Writing.{carries, written, with_signals}
-use Rattle.t1write.specs.declared.Written.{Written}
+use Rattle.t1write.specs.Answer.{Written}
 
 -- n octets of 0 or 1
 unfoldable pub are_bits : List ℕ → ℕ → Bool

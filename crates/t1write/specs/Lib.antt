@@ -1,3 +1,4 @@
 pub mod Writing
+pub mod Answer
 pub mod Entry
 pub mod Inputs

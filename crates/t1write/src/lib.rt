@@ -1,19 +1,16 @@
 // Writing superframes of a T1 line.
 #![tactic(auto)]
 
-ghost use Rattle.std.specs.Prelude.{◌≡◌, ◌++◌, ◌+◌, ◌-◌, ◌*◌, ◌/◌, ◌%◌, ◌^◌, ◌<◌, ◌≤◌, length, drop};
+ghost use Rattle.std.specs.Prelude.{◌≡◌, ◌++◌, ◌+◌, ◌-◌, ◌*◌, ◌/◌, ◌%◌, ◌^◌, ◌<◌, ◌≤◌, length, drop, IfErr};
 ghost use Rattle.base.specs.Answer.{first_number};
+ghost use Rattle.base.specs.Number.{number_in, refusal_place};
 ghost use Rattle.line.specs.Spelt.{packed, spelt};
 ghost use Rattle.t1write.specs.Writing.{framing_bit, carries, written, with_signals};
+ghost use Rattle.t1write.specs.Answer.{answered};
 ghost use Rattle.t1write.specs.Entry.{are_bits, faults, Wrote, WroteSignalled};
 ghost use Rattle.t1write.specs.Inputs.{OfBits, Inputs, frames_bit};
 
-// what an entry answers: the number, 0 where the call is accepted, and the check of the last superframe
-#[derive(Clone, Copy)]
-pub struct Written {
-    pub number: u64,
-    pub check: u64,
-}
+use base::Refused;
 
 // the signal, as a number
 const SIGNAL: u64 = 0b001011;
@@ -166,43 +163,33 @@ fn are_bits(octets: &[u8], n: usize) -> bool
     all < 2
 }
 
-// what is wrong with what a call is given, by its number
-fn fault(payload: &[u8], link: &[u8], check: u64) -> u64
-    ensures { result ≡ first_number (faults payload.now link.now check) }
+// what is wrong with what a call is given
+fn fault(payload: &[u8], link: &[u8], check: u64) -> Result<(), Refused>
+    ensures number { number_in result ≡ first_number (faults payload.now link.now check) }
+    ensures place { IfErr result (λ e. refusal_place e ≡ 0) }
 {
     if !t1::is_sized(payload.len()) {
-        return 5;
+        return Err(Refused::Payload);
     }
     if !are_bits(link, 12 * (payload.len() / 576)) {
-        return 6;
+        return Err(Refused::Overhead);
     }
     if 63 < check {
-        return 7;
+        return Err(Refused::Check);
     }
-    0
+    Ok(())
 }
 
-// Whole superframes from the payload and the data link, the first carrying check.
-pub fn write(payload: &[u8], link: &[u8], check: u64, out: &mut [u8]) -> Written
-    ensures { Wrote payload.now link.now check out.old
-        result out.new }
+// Whole superframes from the payload and the data link, the first carrying check, and the check of the last.
+pub fn write(payload: &[u8], link: &[u8], check: u64, out: &mut [u8]) -> Result<u64, Refused>
+    ensures { Wrote payload.now link.now check out.old (answered result) out.new }
 {
+    fault(payload, link, check)?;
     let n = payload.len() / 576;
-    let number = fault(payload, link, check);
-    if number != 0 {
-        return Written { number, check: 0 };
-    }
     if out.len() < 579 * n {
-        return Written {
-            number: 4,
-            check: 0,
-        };
+        return Err(Refused::NoRoom);
     }
-    let last = write_all(payload, link, check, n, out);
-    Written {
-        number: 0,
-        check: last,
-    }
+    Ok(write_all(payload, link, check, n, out))
 }
 
 // The same, with the last bits of frames 6, 12, 18 and 24 replaced.
@@ -212,30 +199,16 @@ pub fn write_signalled(
     check: u64,
     signalling: &[u8],
     out: &mut [u8],
-) -> Written
-    ensures { WroteSignalled payload.now link.now check signalling.now
-        out.old result out.new }
+) -> Result<u64, Refused>
+    ensures { WroteSignalled payload.now link.now check signalling.now out.old (answered result) out.new }
 {
+    fault(payload, link, check)?;
     let n = payload.len() / 576;
-    let number = fault(payload, link, check);
-    if number != 0 {
-        return Written { number, check: 0 };
-    }
     if !are_bits(signalling, 96 * n) {
-        return Written {
-            number: 16,
-            check: 0,
-        };
+        return Err(Refused::Signalling);
     }
     if out.len() < 579 * n {
-        return Written {
-            number: 4,
-            check: 0,
-        };
+        return Err(Refused::NoRoom);
     }
-    let last = write_replaced(payload, link, check, signalling, n, out);
-    Written {
-        number: 0,
-        check: last,
-    }
+    Ok(write_replaced(payload, link, check, signalling, n, out))
 }
