@@ -1,9 +1,8 @@
 -- What is answered in numbers tells the result.
-use mathlib.Core.Path.{◌≡◌, refl, sym, ap, ◌∙◌}
+use mathlib.Core.Path.{◌≡◌, refl, sym, ap}
 use native.Mathlib.Omega.{arith}
-use Rattle.std.specs.Prelude.{ℕ, ◌+◌, ◌%◌, Option, Some, None, Result, Ok, Err}
+use Rattle.std.specs.Prelude.{ℕ, Option, Some, None, Result, Ok, Err}
 use Rattle.base.specs.declared.Refused.{Refused}
-use Rattle.base.specs.Number.{refusal_number}
 use Rattle.base.proofs.NumberLaws.{same_refusal, refusal_above_0}
 use Rattle.measure.specs.Reading.{lost_at, cause_of}
 use Rattle.read.specs.Answer.{Reading, answered}
