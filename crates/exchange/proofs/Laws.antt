@@ -14,9 +14,9 @@ use borrow.Author.Tests.{ne_eqb, eqb-true, leb-true, le-leb, ltb-false, not-fals
 use Rattle.base.specs.Answer.{accepted, among}
 use Rattle.base.proofs.AnswerLaws.{accepted_not, first_listed, first_tells}
 use Rattle.exchange.specs.declared.State.{State}
-use Rattle.exchange.specs.declared.Answered.{Answered}
+use Rattle.exchange.specs.Answer.{Answered, accept, refuse}
 use Rattle.exchange.specs.Mapping.{map_refusal, mapped, map_refusals}
-use Rattle.exchange.specs.Machine.{accept, refuse, kind_of, a_of, b_of, between, outside, locked, unstaged}
+use Rattle.exchange.specs.Machine.{kind_of, a_of, b_of, between, outside, locked, unstaged}
 use Rattle.exchange.specs.Machine.{host_refusal, stage, commit, discard, host_after, host_entry, hosted, key_on}
 use Rattle.exchange.specs.Machine.{key_off, keyed, host_refusals, key_refusals, key_refusal}
 use Rattle.exchange.specs.Runs.{Call, host, key, boundary, mapping, after_call, answer, lent, is_boundary, is_commit}

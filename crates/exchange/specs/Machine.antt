@@ -1,9 +1,9 @@
 -- The map and the key as a machine on its state: what each call answers and what it leaves (KIT §7).
-use Rattle.std.specs.Prelude.{if◌then◌else◌, ℕ, Bool, true, false, not, ◌&&◌, ◌||◌, List, [], ◌∷◌, length, get_or, set, replicate, leb, ltb, eqb}
+use Rattle.std.specs.Prelude.{if◌then◌else◌, ℕ, Bool, true, false, not, ◌&&◌, ◌||◌, List, [], ◌∷◌, ◌++◌, length, get_or, set, replicate, leb, ltb, eqb}
 use Rattle.base.specs.Tab.{tab}
 use Rattle.base.specs.Answer.{accepted, Refusal, ◌when◌, first_number}
 use Rattle.exchange.specs.declared.State.{State}
-use Rattle.exchange.specs.declared.Answered.{Answered}
+use Rattle.exchange.specs.Answer.{Answered, accept, refuse}
 use Rattle.exchange.specs.Mapping.{entry_at}
 
 -- at the start the flag is off and slot j takes from j
@@ -45,13 +45,6 @@ abbrev pub none_waiting : State → State
 none_waiting s =
     record { flag = s.flag; staging = s.staging; pending = false; live = s.live; staged = s.staged; waiting = s.waiting }
 
--- an accepted call, and a refused one, which leaves the state as it was
-abbrev pub accept : State → ℕ → Answered
-accept s entry = record { state = s; number = 0; entry = entry }
-
-abbrev pub refuse : State → ℕ → Answered
-refuse s number = record { state = s; number = number; entry = 0 }
-
 -- A host record r is 4 octets: kind, a, b, host number.
 
 abbrev pub kind_of : List ℕ → ℕ
@@ -78,14 +71,25 @@ locked kind flag = (eqb kind 1 || (eqb kind 2 || eqb kind 4)) && not flag
 unfoldable pub unstaged : ℕ → Bool → Bool
 unstaged kind staging = (eqb kind 2 || eqb kind 4) && not staging
 
-abbrev pub host_refusals : State → List ℕ → List Refusal
-host_refusals s r =
+-- what refuses a record whatever the state is, and a record of kind k by the state
+abbrev pub record_refusals : List ℕ → List Refusal
+record_refusals r =
     8 when not (eqb (length r) 4)
     ∷ 9 when not (between 1 (kind_of r) 4)
     ∷ 10 when outside (kind_of r) (a_of r) (b_of r)
-    ∷ 11 when locked (kind_of r) s.flag
-    ∷ 12 when unstaged (kind_of r) s.staging
     ∷ []
+
+abbrev pub state_refusals : State → ℕ → List Refusal
+state_refusals s k = 11 when locked k s.flag ∷ 12 when unstaged k s.staging ∷ []
+
+abbrev pub host_refusals : State → List ℕ → List Refusal
+host_refusals s r = record_refusals r ++ state_refusals s (kind_of r)
+
+abbrev pub record_refusal : List ℕ → ℕ
+record_refusal r = first_number (record_refusals r)
+
+abbrev pub state_refusal : State → ℕ → ℕ
+state_refusal s k = first_number (state_refusals s k)
 
 unfoldable pub host_refusal : State → List ℕ → ℕ
 host_refusal s r = first_number (host_refusals s r)
