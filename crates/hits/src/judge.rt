@@ -1,33 +1,78 @@
 // Whether the check sees two hits on bits of one block.
 ghost use Rattle.std.specs.Prelude.{◌≡◌};
-ghost use Rattle.crc.specs.Share.{distance};
-ghost use Rattle.hits.specs.Verdict.{verdict, form_of};
+ghost use Rattle.hits.specs.Verdict.{numbers_of, verdict};
 
-// of a block: how many bits, each how many-th is no data bit, after how many bits shares come round, how many bits a check has
+// whose block it is: one of E1, or a superframe of T1
 #[derive(Clone, Copy)]
-pub struct Form {
-    pub bits: usize,
-    pub every: usize,
-    pub order: usize,
-    pub width: usize,
+pub enum Form {
+    E1,
+    T1,
 }
 
-pub fn form_of(t1: bool) -> Form
-    ensures { result ≡ form_of t1 }
-{
-    if t1 {
-        return Form {
-            bits: 4632,
-            every: 193,
-            order: 63,
-            width: 6,
-        };
+impl Form {
+    // how many bits it has
+    pub fn bits(self) -> usize
+        ensures { result ≡ (numbers_of self).bits }
+    {
+        match self {
+            Form::E1 => 2048,
+            Form::T1 => 4632,
+        }
     }
-    Form {
-        bits: 2048,
-        every: 512,
-        order: 15,
-        width: 4,
+
+    // each how many-th is no data bit
+    pub fn every(self) -> usize
+        ensures { result ≡ (numbers_of self).every }
+    {
+        match self {
+            Form::E1 => 512,
+            Form::T1 => 193,
+        }
+    }
+
+    // after how many bits shares come round
+    pub fn order(self) -> usize
+        ensures { result ≡ (numbers_of self).order }
+    {
+        match self {
+            Form::E1 => 15,
+            Form::T1 => 63,
+        }
+    }
+
+    // how many bits its check has
+    pub fn width(self) -> usize
+        ensures { result ≡ (numbers_of self).width }
+    {
+        match self {
+            Form::E1 => 4,
+            Form::T1 => 6,
+        }
+    }
+
+    // of hits on two bits, which may be any numbers
+    pub fn verdict(self, a: usize, b: usize) -> Verdict
+        ensures { result ≡ verdict self a b }
+    {
+        let bits = self.bits();
+        if (bits <= a) | (bits <= b) {
+            return Verdict::Outside;
+        }
+        let every = self.every();
+        if a % every == 0 {
+            return Verdict::NoData { bit: a };
+        }
+        if b % every == 0 {
+            return Verdict::NoData { bit: b };
+        }
+        if a == b {
+            return Verdict::OneBit { bit: a };
+        }
+        let apart = a.abs_diff(b);
+        if apart % self.order() == 0 {
+            return Verdict::Hidden { apart };
+        }
+        Verdict::Seen { apart }
     }
 }
 
@@ -38,37 +83,4 @@ pub enum Verdict {
     OneBit { bit: usize },
     Hidden { apart: usize },
     Seen { apart: usize },
-}
-
-fn distance(a: usize, b: usize) -> usize
-    ensures { result ≡ distance a b }
-{
-    if a < b {
-        return b - a;
-    }
-    a - b
-}
-
-// The bits may be any numbers.
-pub fn verdict_of(t1: bool, a: usize, b: usize) -> Verdict
-    ensures { result ≡ verdict (form_of t1) a b }
-{
-    let k = form_of(t1);
-    if (k.bits <= a) | (k.bits <= b) {
-        return Verdict::Outside;
-    }
-    if a % k.every == 0 {
-        return Verdict::NoData { bit: a };
-    }
-    if b % k.every == 0 {
-        return Verdict::NoData { bit: b };
-    }
-    if a == b {
-        return Verdict::OneBit { bit: a };
-    }
-    let apart = distance(a, b);
-    if apart % k.order == 0 {
-        return Verdict::Hidden { apart };
-    }
-    Verdict::Seen { apart }
 }

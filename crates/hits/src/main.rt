@@ -6,134 +6,108 @@ mod judge;
 mod share;
 
 ghost use Rattle.std.specs.Prelude.{◌<◌, ◌≤◌};
-ghost use Rattle.hits.specs.Verdict.{form_of};
+ghost use Rattle.hits.specs.Verdict.{numbers_of};
 
-use judge::Verdict;
-use pen::Pen;
-use program::say_number;
-use program::text::Spelt;
-use std::io::{Write, writer};
+use judge::{Form, Verdict};
+use program::{Kind, Printed, Program};
 use std::rt::Env;
 
-// r, in as many bits as a check has
-fn bits<W: Write + Drop>(pen: Pen<W>, t1: bool, r: usize) -> Pen<W> {
-    let digits = [
-        b'0' + (r / 32 % 2) as u8,
-        b'0' + (r / 16 % 2) as u8,
-        b'0' + (r / 8 % 2) as u8,
-        b'0' + (r / 4 % 2) as u8,
-        b'0' + (r / 2 % 2) as u8,
-        b'0' + (r % 2) as u8,
-    ];
-    let a = 6 - judge::form_of(t1).width;
-    pen.text(&digits[a..])
-}
+const HITS: Program<'static> = Program {
+    name: "hits",
+    kind: Kind::E1,
+};
 
-// what both bits add to the check, and the end of the output
-fn shares<W: Write + Drop>(pen: Pen<W>, t1: bool, a: usize, b: usize)
-    requires { (a < (form_of t1).bits) × (b < (form_of t1).bits) }
+// what both bits add to the check, behind what is said of them
+fn print_shares(rt: &impl Print, form: Form, a: usize, b: usize) -> Printed
+    requires { (a < (numbers_of form).bits) × (b < (numbers_of form).bits) }
 {
-    let first = share::share_of(t1, a);
-    let second = share::share_of(t1, b);
-    let pen = bits(pen.fill(b"bit % adds ", &[a]), t1, first);
-    let pen = bits(pen.fill(b" to the check\nbit % adds ", &[b]), t1, second);
-    let pen = bits(
-        pen.text(b" to the check\ntogether they add "),
-        t1,
-        first ^ second,
-    );
-    program::written(b"hits", pen.text(b"\n").written);
+    let width = form.width();
+    let first = form.share(a);
+    let second = form.share(b);
+    let both = first ^ second;
+    println!(rt; "bit {a} adds {first:0width$b} to the check")?;
+    println!(rt; "bit {b} adds {second:0width$b} to the check")?;
+    println!(rt; "together they add {both:0width$b}")
 }
 
-fn say_outside(t1: bool) {
-    if t1 {
-        program::say(b"hits", b"a superframe has bits 0 to 4631");
-        return;
-    }
-    program::say(b"hits", b"a block has bits 0 to 2047");
+fn print_hidden(rt: &impl Print, form: Form, a: usize, b: usize, apart: usize) -> Printed
+    requires { (a < (numbers_of form).bits) × (b < (numbers_of form).bits) }
+{
+    let order = form.order();
+    let times = apart / order;
+    println!(rt; "unseen: {apart} apart, {times} times {order}")?;
+    print_shares(rt, form, a, b)
 }
 
-fn say_no_data(t1: bool, bit: usize) {
-    if t1 {
-        say_number(
-            b"hits",
-            b"bit ",
-            bit as u64,
-            b" is a framing bit: it counts as 1 in its own superframe, hit or not; \
-              where it carries a check, a hit on it shows in the superframe before",
-        );
-        return;
+fn print_seen(rt: &impl Print, form: Form, a: usize, b: usize, apart: usize) -> Printed
+    requires { (a < (numbers_of form).bits) × (b < (numbers_of form).bits) }
+{
+    let order = form.order();
+    println!(rt; "seen: {apart} apart, no multiple of {order}")?;
+    print_shares(rt, form, a, b)
+}
+
+fn say_outside(form: Form) {
+    match form {
+        Form::E1 => HITS.say("a block has bits 0 to 2047"),
+        Form::T1 => HITS.say("a superframe has bits 0 to 4631"),
     }
-    say_number(
-        b"hits",
-        b"bit ",
-        bit as u64,
-        b" is a check bit: it counts as 0 in its own block, hit or not; a hit on it shows in the block before",
-    );
+}
+
+fn say_no_data(form: Form, bit: usize) {
+    match form {
+        Form::E1 => HITS.say(format_args!(
+            "bit {bit} is a check bit: it counts as 0 in its own block, hit or not; \
+             a hit on it shows in the block before"
+        )),
+        Form::T1 => HITS.say(format_args!(
+            "bit {bit} is a framing bit: it counts as 1 in its own superframe, hit or not; \
+             where it carries a check, a hit on it shows in the superframe before"
+        )),
+    }
 }
 
 fn say_one_bit(bit: usize) {
-    say_number(
-        b"hits",
-        b"two hits on bit ",
-        bit as u64,
-        b" leave it as it was",
-    );
+    HITS.say(format_args!("two hits on bit {bit} leave it as it was"));
 }
 
-// the first line of the output
-fn unseen<W: Write + Drop>(pen: Pen<W>, t1: bool, apart: usize) -> Pen<W> {
-    let order = judge::form_of(t1).order;
-    let times = apart / order;
-    pen.fill(b"unseen: % apart, % times %\n", &[apart, times, order])
-}
-
-fn seen<W: Write + Drop>(pen: Pen<W>, t1: bool, apart: usize) -> Pen<W> {
-    let order = judge::form_of(t1).order;
-    pen.fill(b"seen: % apart, no multiple of %\n", &[apart, order])
-}
-
-fn answer(rt: &impl Print, t1: bool, a: usize, b: usize) {
-    let pen = Pen::new(writer(rt));
-    match judge::verdict_of(t1, a, b) {
-        Verdict::Outside => say_outside(t1),
-        Verdict::NoData { bit } => say_no_data(t1, bit),
+fn answer(rt: &impl Print, form: Form, a: usize, b: usize) {
+    match form.verdict(a, b) {
+        Verdict::Outside => say_outside(form),
+        Verdict::NoData { bit } => say_no_data(form, bit),
         Verdict::OneBit { bit } => say_one_bit(bit),
-        Verdict::Hidden { apart } => shares(unseen(pen, t1, apart), t1, a, b),
-        Verdict::Seen { apart } => shares(seen(pen, t1, apart), t1, a, b),
+        Verdict::Hidden { apart } => HITS.written(print_hidden(rt, form, a, b, apart)),
+        Verdict::Seen { apart } => HITS.written(print_seen(rt, form, a, b, apart)),
     }
 }
 
-fn say_usage() {
-    program::say(
-        b"hits",
-        b"name two bits of a block, as decimal numbers: hits A B, or hits --t1 A B",
-    );
-}
-
-// the two bits are the arguments from `at` on, and nothing is behind them
-fn ask(rt: &(impl Env + Print), t1: bool, at: usize)
+// the two bits, which are the arguments from `at` on; nothing is behind them
+fn bits(rt: &impl Env, at: usize) -> Option<(usize, usize)>
     requires { at ≤ 2 }
 {
-    if !program::is_given(rt, at + 1) || program::is_given(rt, at + 2) {
-        say_usage();
-        return;
+    if program::is_given(rt, at + 2) {
+        return None;
     }
-    let Spelt::Number(a) = program::argument(rt, at) else {
-        say_usage();
-        return;
-    };
-    let Spelt::Number(b) = program::argument(rt, at + 1) else {
-        say_usage();
-        return;
-    };
-    answer(rt, t1, a as usize, b as usize);
+    let a = program::argument(rt, at)?;
+    let b = program::argument(rt, at + 1)?;
+    Some((a as usize, b as usize))
+}
+
+fn ask(rt: &(impl Env + Print), form: Form, at: usize)
+    requires { at ≤ 2 }
+{
+    match bits(rt, at) {
+        Some((a, b)) => answer(rt, form, a, b),
+        None => HITS.say(
+            "name two bits of a block, as decimal numbers: hits A B, or hits --t1 A B",
+        ),
+    }
 }
 
 fn main(rt: HostRuntime) {
     if program::is_first(&rt, b"--t1") {
-        ask(&rt, true, 2);
+        ask(&rt, Form::T1, 2);
         return;
     }
-    ask(&rt, false, 1);
+    ask(&rt, Form::E1, 1);
 }

@@ -2,9 +2,9 @@
 ghost use Rattle.std.specs.Prelude.{◌≡◌, ◌^◌, ◌<◌, ◌≤◌};
 ghost use Rattle.crc.specs.Remainder.{step};
 ghost use Rattle.crc.specs.Share.{share};
-ghost use Rattle.hits.specs.Verdict.{form_of, share_of};
+ghost use Rattle.hits.specs.Verdict.{numbers_of, share_of};
 
-use crate::judge;
+use crate::judge::Form;
 
 // one bit 0 more: doubled, and where x^w comes out, x + 1 stands for it
 fn step(w: usize, r: usize) -> usize
@@ -30,10 +30,11 @@ fn share(w: usize, k: usize) -> usize
     r
 }
 
-pub fn share_of(t1: bool, bit: usize) -> usize
-    requires { bit < (form_of t1).bits }
-    ensures { result ≡ share_of (form_of t1) bit }
-{
-    let k = judge::form_of(t1);
-    share(k.width, k.bits - 1 - bit)
+impl Form {
+    pub fn share(self, bit: usize) -> usize
+        requires { bit < (numbers_of self).bits }
+        ensures { result ≡ share_of self bit }
+    {
+        share(self.width(), self.bits() - 1 - bit)
+    }
 }

@@ -34,7 +34,7 @@ loop-x-preserved c =
     let l = c.loop-x in
     let s = c.args.s.now in
     goes_on s l.v l.x-index (omega arith) l.invariant (digit _ c.if-not-is_ascii_digit.ensures.cases)
-    ∙ ap (λ w. decimal w (drop (l.x-index + 1) s)) (omega (arith, c.saturating_mul.ensures, c.saturating_add-v.ensures))
+    ∙ ap (λ w. decimal w (drop (l.x-index + 1) s)) (omega arith)
 
 pub returns : goal.returns
 unfolding decimal
