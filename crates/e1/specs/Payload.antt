@@ -1,5 +1,6 @@
 -- The payload (KIT §5): slots 1 to 31, frame after frame, 496 octets a multiframe.
-use Rattle.std.specs.Prelude.{ℕ, ◌+◌, ◌-◌, ◌*◌, ◌/◌, ◌%◌, Bool, ◌&&◌, List, eqb, leb, length}
+use Rattle.std.specs.Prelude.{ℕ, ◌+◌, ◌-◌, ◌*◌, ◌/◌, ◌%◌, Bool, List, length}
+use Rattle.line.specs.Sized.{sized_by}
 
 -- where slot j of frame f stands in a payload
 abbrev pub index_of : ℕ → ℕ → ℕ
@@ -18,4 +19,4 @@ multiframes payload = length payload / 496
 
 -- it is 496n octets, n from 1 to 16
 unfoldable pub sized : ℕ → Bool
-sized octets = eqb (octets % 496) 0 && (leb 1 (octets / 496) && leb (octets / 496) 16)
+sized octets = sized_by 496 16 octets

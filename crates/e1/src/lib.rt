@@ -86,6 +86,5 @@ pub fn agrees(s: &[u8], q: usize, table: &Remainders) -> bool
 pub fn is_sized(octets: usize) -> bool
     ensures { result ≡ sized octets }
 {
-    let n = octets / 496;
-    (octets % 496 == 0) & ((1 <= n) & (n <= 16))
+    line::is_sized::<496, 16>(octets)
 }

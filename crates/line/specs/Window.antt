@@ -1,11 +1,6 @@
--- For private functions alone, and for `eight_octets` and `turned`, which the search's private functions use. Octets as
--- one number, as a window of 64 bits is made of them, and the bits of a number.
-use Rattle.std.specs.Prelude.{ℕ, zero, suc, ◌+◌, ◌*◌, ◌/◌, ◌%◌, ◌^◌, ◌≡◌, List, get_or}
-
--- n octets from i on, the first the lowest
-unfoldable pub low_first : List ℕ → ℕ → ℕ → ℕ
-low_first s i zero = 0
-low_first s i (suc n) = get_or s i 0 + 256 * low_first s (i + 1) n
+-- For private functions alone, and for `eight_octets` and `turned`, which the search's private functions use. The octets
+-- of a number turned, as a window of 64 bits is made of them, and its bits.
+use Rattle.std.specs.Prelude.{ℕ, zero, suc, ◌+◌, ◌*◌, ◌/◌, ◌%◌, ◌^◌, ◌≡◌}
 
 -- the n lowest octets of w, the lowest first
 unfoldable pub turned : ℕ → ℕ → ℕ

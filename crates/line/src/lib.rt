@@ -1,9 +1,10 @@
 #![tactic(auto)]
 
-ghost use Rattle.std.specs.Prelude.{◌≡◌, ◌+◌, ◌-◌, ◌*◌, ◌^◌, ◌<◌, ◌≤◌, length};
+ghost use Rattle.std.specs.Prelude.{◌≡◌, ◌+◌, ◌-◌, ◌*◌, ◌^◌, ◌<◌, ◌≤◌, length, take, drop};
 ghost use Rattle.line.specs.Bit.{bit_at, field, octet_at};
 ghost use Rattle.line.specs.Spelt.{spelt_octet};
-ghost use Rattle.line.specs.Window.{low_first, turned};
+ghost use Rattle.line.specs.Sized.{sized_by};
+ghost use Rattle.line.specs.Window.{turned};
 ghost use Rattle.base.specs.Tab.{tab};
 
 // bit o of octet i
@@ -58,9 +59,7 @@ pub fn put_run(octets: [u8; 16], out: &mut [u8])
     requires { length out.old ≡ 16 }
     ensures { out.new ≡ octets }
 {
-    for j in 0..16 {
-        out[j] = octets[j];
-    }
+    out.copy_from_slice(&octets);
 }
 
 // the seven bits from place p + 1 on, of the octet at p
@@ -71,19 +70,12 @@ pub fn word(s: &[u8], p: usize) -> u8
     octet(s, p) & 0x7f
 }
 
-// an octet as a wider number
-fn wide(x: u8) -> u64
-    ensures { (result ≡ x) × (result < 256) }
+// the eight octets from i on
+fn eight(s: &[u8], i: usize) -> [u8; 8]
+    requires { i + 8 ≤ length s.now }
+    ensures { result ≡ take 8 (drop i s.now) }
 {
-    x as u64
-}
-
-// the four octets from i on as a number, little-endian; two compile to one load
-fn little(s: &[u8], i: usize) -> u64
-    requires { i + 4 ≤ length s.now }
-    ensures { (result ≡ low_first s.now i 4) × (result < 4294967296) }
-{
-    wide(s[i]) + 256 * wide(s[i + 1]) + 65536 * wide(s[i + 2]) + 16777216 * wide(s[i + 3])
+    *s[i..].first_chunk().unwrap()
 }
 
 // the eight octets from i on as a number that, turned, the 64 bits from there on spell
@@ -91,21 +83,14 @@ pub fn eight_octets(s: &[u8], i: usize) -> u64
     requires { i + 8 ≤ length s.now }
     ensures { turned 8 result ≡ field s.now (8 * i) 64 }
 {
-    little(s, i) + 4294967296 * little(s, i + 4)
+    u64::from_le_bytes(eight(s, i))
 }
 
-// byte-reversed; compiles to one swap
+// byte-reversed
 pub fn turned(w: u64) -> u64
     ensures { result ≡ turned 8 w }
 {
-    72057594037927936 * (w % 256)
-        + 281474976710656 * (w / 256 % 256)
-        + 1099511627776 * (w / 65536 % 256)
-        + 4294967296 * (w / 16777216 % 256)
-        + 16777216 * (w / 4294967296 % 256)
-        + 65536 * (w / 1099511627776 % 256)
-        + 256 * (w / 281474976710656 % 256)
-        + w / 72057594037927936 % 256
+    w.swap_bytes()
 }
 
 // the number that the 64 bits from octet i on spell
@@ -113,34 +98,15 @@ pub fn window(s: &[u8], i: usize) -> u64
     requires { i + 8 ≤ length s.now }
     ensures { result ≡ field s.now (8 * i) 64 }
 {
-    turned(eight_octets(s, i))
+    u64::from_be_bytes(eight(s, i))
 }
 
-// the eight octets that spell a number, by value: they compile to a swap and a store
-fn octets_of(n: u64) -> [u8; 8]
-    ensures { result ≡ tab 8 (spelt_octet n) }
-{
-    [
-        ((n >> 56) % 256) as u8,
-        ((n >> 48) % 256) as u8,
-        ((n >> 40) % 256) as u8,
-        ((n >> 32) % 256) as u8,
-        ((n >> 24) % 256) as u8,
-        ((n >> 16) % 256) as u8,
-        ((n >> 8) % 256) as u8,
-        (n % 256) as u8,
-    ]
-}
-
-// writes them
+// writes the eight octets that spell a number
 pub fn spell(n: u64, octets: &mut [u8])
     requires { length octets.old ≡ 8 }
     ensures { octets.new ≡ tab 8 (spelt_octet n) }
 {
-    let spelt = octets_of(n);
-    for j in 0..8 {
-        octets[j] = spelt[j];
-    }
+    octets.copy_from_slice(&n.to_be_bytes());
 }
 
 // how many octets there are from which on n octets stand
@@ -148,9 +114,14 @@ pub fn octets_with_room(s: &[u8], n: usize) -> usize
     requires { length s.now < 2 ^ 60 }
     ensures { result ≡ length s.now + 1 - n }
 {
-    let past = s.len() + 1;
-    if past < n {
-        return 0;
-    }
-    past - n
+    (s.len() + 1).saturating_sub(n)
+}
+
+// so many octets are a payload of 1 to MOST multiframes or superframes of EACH octets
+pub fn is_sized<const EACH: usize, const MOST: usize>(octets: usize) -> bool
+    requires { 0 < EACH }
+    ensures { result ≡ sized_by EACH MOST octets }
+{
+    let n = octets / EACH;
+    (octets % EACH == 0) & ((1 <= n) & (n <= MOST))
 }
