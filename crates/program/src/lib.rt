@@ -5,7 +5,7 @@ mod reason;
 mod refusal;
 pub mod text;
 
-ghost use Rattle.std.specs.Prelude.{◌≤◌, length, IfOk, IfSome};
+ghost use Rattle.std.specs.Prelude.{◌≡◌, ◌*◌, ◌<◌, ◌≤◌, length, IfOk, IfSome};
 ghost use Rattle.io.specs.Counts.{IsPrefixLen};
 
 use base::Refused;
@@ -96,6 +96,14 @@ impl<'a> Program<'a> {
                 self.answer_refused(rt, why);
                 self.name_place(why);
             }
+        }
+    }
+
+    // a line that was made, on standard output; or why there is none
+    pub fn put(self, rt: &impl Print, made: Result<&[u8], Refused>) {
+        match made {
+            Ok(line) => self.written(rt.write_all(line)),
+            Err(why) => self.refused(why),
         }
     }
 
@@ -232,6 +240,17 @@ fn open_file<R: Files>(rt: &R, name: &[u8]) -> std::io::Result<R::File> {
 // the file of this name, made or emptied, to be written
 pub fn create_file<R: Files>(rt: &R, name: &[u8]) -> std::io::Result<R::File> {
     fs::create(rt, text_of(name)?)
+}
+
+// how many multiframes or superframes a program is given, of so many octets each
+pub fn whole(octets: &[u8], each: usize) -> Result<usize, Refused>
+    requires { 0 < each }
+    ensures { IfOk result (λ n. length octets.now ≡ each * n) }
+{
+    if octets.len() % each != 0 {
+        return Err(Refused::Payload);
+    }
+    Ok(octets.len() / each)
 }
 
 // where octets come from

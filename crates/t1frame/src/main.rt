@@ -5,63 +5,47 @@
 
 ghost use Rattle.std.specs.Prelude.{◌≤◌, length};
 
-// what was written of a line, or why nothing was
-fn answer(rt: &impl Print, number: u64, line: &[u8]) {
-    if number != 0 {
-        program::t1_refused(b"t1frame", number);
-        return;
-    }
-    program::written(b"t1frame", program::print(rt, line));
-}
+use base::Refused;
+use program::{Kind, Program};
 
-// The check of the superframe before the first is 0.
-fn frame(rt: &impl Print, octets: &[u8])
+const T1FRAME: Program<'static> = Program {
+    name: "t1frame",
+    kind: Kind::T1,
+};
+
+// the line of n superframes; the check of the superframe before the first is 0
+fn framed<'a>(octets: &[u8], line: &'a mut [u8; 8106]) -> Result<&'a [u8], Refused>
     requires { length octets.now ≤ 8233 }
 {
-    let n = octets.len() / 588;
-    if octets.len() != 588 * n {
-        program::t1_refused(b"t1frame", 5);
-        return;
-    }
-    let a = 576 * n;
-    let e = 579 * n;
-    let mut line = [0u8; 8106];
-    let w = t1write::write(&octets[..a], &octets[a..], 0, &mut line);
-    answer(rt, w.number, &line[..e]);
+    let n = program::whole(octets, 588)?;
+    let (payload, link) = octets.split_at(576 * n);
+    t1write::write(payload, link, 0, line)?;
+    Ok(&line[..579 * n])
 }
 
 // the same with signalling
-fn frame_signalled(rt: &impl Print, octets: &[u8])
+fn framed_signalled<'a>(octets: &[u8], line: &'a mut [u8; 8106]) -> Result<&'a [u8], Refused>
     requires { length octets.now ≤ 9577 }
 {
-    let n = octets.len() / 684;
-    if octets.len() != 684 * n {
-        program::t1_refused(b"t1frame", 5);
-        return;
-    }
-    let a = 576 * n;
-    let b = 588 * n;
-    let e = 579 * n;
-    let mut line = [0u8; 8106];
-    let w = t1write::write_signalled(&octets[..a], &octets[a..b], 0, &octets[b..], &mut line);
-    answer(rt, w.number, &line[..e]);
+    let n = program::whole(octets, 684)?;
+    let (payload, rest) = octets.split_at(576 * n);
+    let (link, signalling) = rest.split_at(12 * n);
+    t1write::write_signalled(payload, link, 0, signalling, line)?;
+    Ok(&line[..579 * n])
 }
 
 // 14 superframes take 8,232 octets, and 9,576 with signalling, so one octet more is enough to know that there are more.
 fn main(rt: HostRuntime) {
+    let mut line = [0u8; 8106];
     if program::is_first(&rt, b"--signalled") {
         let mut input = [0u8; 9577];
-        let taken = program::read(&rt, b"t1frame", 2, &mut input);
-        if taken.ok {
-            let n = taken.n;
-            frame_signalled(&rt, &input[..n]);
+        if let Some(n) = T1FRAME.read(&rt, 2, &mut input) {
+            T1FRAME.put(&rt, framed_signalled(&input[..n], &mut line));
         }
         return;
     }
     let mut input = [0u8; 8233];
-    let taken = program::read(&rt, b"t1frame", 1, &mut input);
-    if taken.ok {
-        let n = taken.n;
-        frame(&rt, &input[..n]);
+    if let Some(n) = T1FRAME.read(&rt, 1, &mut input) {
+        T1FRAME.put(&rt, framed(&input[..n], &mut line));
     }
 }

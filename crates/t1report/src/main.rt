@@ -1,37 +1,40 @@
 // Reads a T1 line, from the file that the argument names or from standard input, and prints its report.
 #![tactic(auto)]
 
-use program::{Printed, print_line};
+use program::{Kind, Program};
+use std::fmt;
+use std::fmt::{Display, Formatter};
 use t1read::Reading;
 
-fn print_report(rt: &impl Print, r: Reading) -> Printed {
-    print_line(rt, b"place ", r.place)
-        .and(print_line(rt, b"whole ", r.whole))
-        .and(print_line(rt, b"compared ", r.compared))
-        .and(print_line(rt, b"errored ", r.errored))
-}
+const T1REPORT: Program<'static> = Program {
+    name: "t1report",
+    kind: Kind::T1,
+};
 
-// the report, or the refusal: its number is printed, and said in words on standard error
-fn answer(rt: &impl Print, r: Reading) {
-    if r.number == 0 {
-        program::written(b"t1report", print_report(rt, r));
-        return;
+#[derive(Clone, Copy)]
+struct Report(Reading);
+
+impl Display for Report {
+    fn fmt<W: fmt::Write>(&self, f: &mut Formatter<W>) -> fmt::Result {
+        let r = self.0;
+        writeln!(f, "place {}", r.place)?;
+        writeln!(f, "whole {}", r.whole)?;
+        writeln!(f, "compared {}", r.compared)?;
+        writeln!(f, "errored {}", r.errored)
     }
-    program::t1_answer_refused(rt, b"t1report", r.number);
 }
 
-fn report(rt: &impl Print, image: &[u8]) {
+fn answer(rt: &impl Print, image: &[u8]) {
     let mut payload = [0u8; 8064];
     let mut link = [0u8; 168];
-    answer(rt, t1read::read(image, &mut payload, &mut link));
+    let read = t1read::read(image, &mut payload, &mut link);
+    T1REPORT.answer(rt, read.map(|r| Report(r)));
 }
 
 // No line over 8,192 octets is read, so one octet more is enough to know that it is longer.
 fn main(rt: HostRuntime) {
     let mut image = [0u8; 8193];
-    let taken = program::read(&rt, b"t1report", 1, &mut image);
-    if taken.ok {
-        let n = taken.n;
-        report(&rt, &image[..n]);
+    if let Some(n) = T1REPORT.read(&rt, 1, &mut image) {
+        answer(&rt, &image[..n]);
     }
 }
