@@ -1,27 +1,13 @@
 // Asking about one place: what is said of it, by what judges places in the search.
 ghost use Rattle.std.specs.Prelude.{◌≡◌};
 ghost use Rattle.line.specs.Bit.{Room};
-ghost use Rattle.base.specs.Tab.{least};
-ghost use Rattle.align.specs.Place.{pair_at};
-ghost use Rattle.align.specs.Why.{signalled, judged, why};
+ghost use Rattle.align.specs.Why.{judged, why};
 
 use crate::Why;
 use base::Refused;
 
-// the least k, where there is one
-fn signalled(s: &[u8], p: usize) -> Why
-    requires { Room s.now p 16384 }
-    ensures { result ≡ signalled (least 32 (pair_at s.now p)) }
-{
-    for k in 0..19 {
-        if crate::pair(s, p, k) {
-            return Why::NoneFails { k };
-        }
-    }
-    Why::NoPair
-}
-
 // the first condition that fails
+#[tactic(auto, unfolding(crate::specs::Why::judged))]
 fn judge(s: &[u8], p: usize) -> Why
     requires { Room s.now p 16384 }
     ensures { result ≡ judged s.now p }
@@ -39,7 +25,10 @@ fn judge(s: &[u8], p: usize) -> Why
             bit: e1::first_wrong(s, p + 512),
         };
     }
-    signalled(s, p)
+    match crate::least_k(s, p) {
+        Some(k) => Why::NoneFails { k },
+        None => Why::NoPair,
+    }
 }
 
 // A place of an image is asked about.

@@ -3,11 +3,10 @@
 
 pub mod ask;
 
-ghost use Rattle.std.specs.Prelude.{◌≡◌, ◌+◌, ◌-◌, ◌*◌, ◌^◌, ◌<◌, ◌≤◌, min, ltb, length};
-ghost use Rattle.std.specs.Prelude.{None};
-ghost use Rattle.base.specs.Choice.{when_so};
+ghost use Rattle.std.specs.Prelude.{◌≡◌, ◌+◌, ◌-◌, ◌*◌, ◌^◌, ◌<◌, ◌≤◌, length};
+ghost use Rattle.base.specs.Tab.{least};
 ghost use Rattle.line.specs.Bit.{Room};
-ghost use Rattle.align.specs.Place.{basic, signal_at, again_at, pair_at, found, found_in, place_of, k_of, start_of};
+ghost use Rattle.align.specs.Place.{basic, signal_at, again_at, pair_at, found_in, place_of, k_of, start_of};
 ghost use Rattle.align.specs.Stands.{Basic};
 ghost use Rattle.align.specs.Window.{Holds, NoneFrom, Marks, SignalIn, Signals, Pairs, Paired, Wanted};
 
@@ -70,6 +69,7 @@ struct Hit {
 }
 
 // basic alignment, left at the first thing that is wrong
+#[tactic(auto, unfolding(crate::specs::Place::basic))]
 fn basic(s: &[u8], p: usize) -> bool
     requires { Room s.now p 16384 }
     ensures { result ≡ basic s.now p }
@@ -99,11 +99,20 @@ fn again(s: &[u8], p: usize, k: usize, j: usize) -> bool
 }
 
 // the signal at k, and again 8, 16 or 24 marks later
+#[tactic(auto, unfolding(crate::specs::Place::pair_at))]
 fn pair(s: &[u8], p: usize, k: usize) -> bool
     requires { Room s.now p 16384 × (k ≤ 18) }
     ensures { result ≡ pair_at s.now p k }
 {
     signal(s, p, k) && (again(s, p, k, 1) || (again(s, p, k, 2) || again(s, p, k, 3)))
+}
+
+// the least k of the place, where there is one: past 18 none begins
+fn least_k(s: &[u8], p: usize) -> Option<usize>
+    requires { Room s.now p 16384 }
+    ensures { result ≡ least 32 (pair_at s.now p) }
+{
+    (0..19).find(|k| pair(s, p, *k))
 }
 
 // Windows, for the places from octet i on: a set of them is a number whose highest bit stands for the place 8i, the next
@@ -260,26 +269,6 @@ fn onward(s: &[u8], p: usize, end: usize, known: bool) -> usize
     }
 }
 
-// the lesser of two
-fn lesser(a: usize, b: usize) -> usize
-    ensures { result ≡ min a b }
-{
-    if a < b {
-        return a;
-    }
-    b
-}
-
-// what is answered where no place stands: the first with basic alignment, if it is before the end
-fn unpaired(first: usize, bits: usize) -> Found
-    ensures { result ≡ found None (when_so (ltb first bits) first) }
-{
-    if first < bits {
-        return Found::BasicAt { place: first };
-    }
-    Found::Nothing
-}
-
 // the first place that stands, with its least k, or else the first with basic alignment, which is noted on the way
 pub fn find(s: &[u8]) -> Found
     requires { length s.now < 2 ^ 60 }
@@ -288,18 +277,19 @@ pub fn find(s: &[u8]) -> Found
     let bits = 8 * s.len();
     let end = line::octets_with_room(s, 2048);
     let mut p = 0;
-    let mut first = bits;
-    'search: loop {
-        p = onward(s, p, end, first < bits);
+    let mut first = None;
+    loop {
+        p = onward(s, p, end, first.is_some());
         if bits < p + 16384 {
-            break 'search unpaired(first, bits);
+            return match first {
+                Some(place) => Found::BasicAt { place },
+                None => Found::Nothing,
+            };
         }
         if basic(s, p) {
-            first = lesser(first, p);
-            for k in 0..19 {
-                if pair(s, p, k) {
-                    break 'search Found::At { place: p, k };
-                }
+            first = first.or(Some(p));
+            if let Some(k) = least_k(s, p) {
+                return Found::At { place: p, k };
             }
         }
         p += 1;

@@ -1,10 +1,8 @@
--- `signal_in` meets its contract.
 use native.Mathlib.Omega.{arith}
 use Rattle.line.proofs.WindowLaws.{and_one, not_one}
-use Rattle.align.proofs.signal_in.Statement.{statement}
-use Rattle.align.proofs.signal_in.Tie as tie
+use Rattle.align.proofs.signal_in.Goals as goal
 
-returns : tie.Need-returns
+pub returns : goal.returns
 returns x n h a b c d e f =
     and_one _ _ n
     (and_one _ _ n
@@ -13,6 +11,3 @@ returns x n h a b c d e f =
     (not_one x.args.d n 64 (omega arith) h d))
     e)
     f
-
-pub signal_in_spec : {M : Type 1} → statement M
-signal_in_spec = tie.close (tie.spec returns)
