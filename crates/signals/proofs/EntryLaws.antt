@@ -10,14 +10,16 @@ use lib.ListN.{length, drop}
 use Rattle.base.specs.Answer.{accepted, Refusal, ◌when◌, first_number}
 use Rattle.base.proofs.AnswerLaws.{accepted_so, accepted_not, accepted_single, joined_first, joined_then}
 use Rattle.base.proofs.TabLaws.{length_tab}
-use Rattle.read.specs.Entry.{unplaced, located}
-use Rattle.read.specs.declared.Located.{Located}
-use Rattle.read.proofs.Measures.{located_number}
+use Rattle.std.specs.Prelude.{Ok, Err}
+use Rattle.base.specs.Number.{refusal_number}
+use Rattle.base.specs.declared.Refused.{Refused}
+use Rattle.base.proofs.NumberLaws.{refusal_above_0}
+use Rattle.read.specs.Entry.{unplaced, Locates}
 use Rattle.signals.specs.Signalling.{read_in, abcd_in, xy_in}
 use Rattle.signals.specs.Entry.{slot16_of, slot16_in, filled, refusal, accept, refuse, signalling, Signalled}
 use Rattle.signals.specs.Follow.{followed}
 use Rattle.signals.specs.declared.Followed.{Followed}
-use Rattle.signals.specs.declared.Signalling.{Signalling}
+use Rattle.signals.specs.Answer.{Signalling, answered}
 
 pub slot16_length : (s : List ℕ) (q g : ℕ) → length (slot16_of s q g) ≡ 16 * g
 unfolding slot16_of
@@ -95,13 +97,13 @@ module _ (s out : List ℕ) where
       signals_single r (refuse (suc n)) o out h (refused_as (suc n) (sym (signals_number r o h) ∙ e) (λ z. omega arith))
 
   -- what `locate` refuses
-  pub unplaced_as : (l : Located) → l ≡ located s → (l.number ≡ 0 → ⊥) → Signalled s out (refuse l.number) out
-  unplaced_as l e h = refused_as l.number (unplaced_first s (length out) l.number (located_number s l e) h) h
+  pub unplaced_as : (e : Refused) → Locates s (Err e) → Signalled s out (refuse (refusal_number e)) out
+  unplaced_as e l =
+      refused_as (refusal_number e) (unplaced_first s (length out) (refusal_number e) (sym l.0) (refusal_above_0 e)) (refusal_above_0 e)
 
 -- the answer from what is found
 pub answer_found : (t : List ℕ) (r : Followed) (x : ℕ) → r ≡ followed t → x ≡ xy_in t (length t)
-    → record {
-      number = 0;
+    → answered (Ok record {
       multiframes = r.multiframes;
       first = r.first;
       losses = r.losses;
@@ -111,7 +113,7 @@ pub answer_found : (t : List ℕ) (r : Followed) (x : ℕ) → r ≡ followed t 
       x2 = x % 2;
       y = x / 4 % 2;
       starts = r.starts;
-    } ≡ accept t
+    }) ≡ accept t
 unfolding accept followed
 answer_found t r x e k = λ i.
     record {

@@ -4,9 +4,10 @@ use mathlib.Core.Path.{◌≡◌, refl, sym, ap, ap₂, ◌∙◌}
 use mathlib.Core.List.{List, ◌++◌}
 use native.Mathlib.Omega.{arith}
 use borrow.Rule.Slice.PartMut.{put_mid}
-use lib.ListN.{length, get_or, take, drop}
+use lib.ListN.{length, get_or, take, drop, length-append, length-drop}
+use lib.Seq.{length-take-le}
 use Rattle.base.specs.Tab.{tab, tab_from}
-use Rattle.base.proofs.TabLaws.{tab_agree}
+use Rattle.base.proofs.TabLaws.{tab_agree, length_tab}
 use Rattle.base.proofs.PartLaws.{part_more, part_rest, parts_kept}
 use Rattle.signals.specs.Signalling.{starts_in, read_in, abcd_at, abcd_in}
 use Rattle.signals.specs.Entry.{filled}
@@ -68,14 +69,26 @@ module _ {t out₀ starts : List ℕ} {n : ℕ} {out : List ℕ} {m : ℕ} (p : 
 
     pub filled_more : (ys : List ℕ)
         → ys ≡ channels (take (get_or starts m 0 + 16 - get_or starts m 0) (drop (get_or starts m 0) t)) 0
-        → length (put_mid (30 * m) (30 * m + 30 - 30 * m) out ys) ≡ length out
         → Filling t out₀ starts n (put_mid (30 * m) (30 * m + 30 - 30 * m) out ys) (m + 1)
     unfolding channels
-    filled_more ys y k =
+    filled_more ys y =
         let a = get_or starts m 0 in
         let f : a ≡ get_or (starts_in t (length t)) m 0 = ap (λ s. get_or s m 0) p.its_starts ∙ found_start t p.found p.its_found m here in
         let e : 30 * (m + 1) ≡ 30 * m + 30 = omega arith in
-        let z : 30 * m + 30 - 30 * m ≡ 30 = omega arith in
+        let w = 30 * m + 30 - 30 * m in
+        let z : w ≡ 30 = omega arith in
+        let rest = drop w (drop (30 * m) out) in
+        let k : length (put_mid (30 * m) w out ys) ≡ length out =
+        omega (
+          arith,
+          length-append (take (30 * m) out) (ys ++ rest),
+          length-append ys rest,
+          length-take-le (30 * m) out (omega (arith, room)),
+          length-drop w (drop (30 * m) out),
+          length-drop (30 * m) out,
+          room,
+          ap length y ∙ length_tab 30 _,
+        ) in
         let its : ys ≡ tab (30 * m + 30 - 30 * m) (λ i. octet_of t (30 * m + i)) =
         y ∙ channels_part t a (a + 16 - a) (omega arith)
         ∙ tab_agree 30 (λ i. abcd_at t a (i + 1)) (λ i. octet_of t (30 * m + i))

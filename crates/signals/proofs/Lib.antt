@@ -1,4 +1,5 @@
 pub mod Laws
+pub mod Channels
 pub mod Starts
 pub mod LossLaws
 pub mod Through

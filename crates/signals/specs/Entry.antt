@@ -6,7 +6,8 @@ use Rattle.line.specs.Bit.{octet_at}
 use Rattle.e1.specs.Frame.{slot_at}
 use Rattle.read.specs.Entry.{start_in, used_in, unplaced}
 use Rattle.signals.specs.Signalling.{starts_in, read_in, first_in, losses_in, held_in, abcd_in, xy_in}
-use Rattle.signals.specs.declared.Signalling.{Signalling}
+use Rattle.signals.specs.Answer.{Signalling}
+pub use Rattle.signals.specs.Answer.{refuse}
 
 -- slot 16 of the frames of g multiframes from q on, and of those of an image that are used
 unfoldable pub slot16_of : List ℕ → ℕ → ℕ → List ℕ
@@ -41,22 +42,6 @@ accept t =
       x2 = xy_in t n % 2;
       y = xy_in t n / 4 % 2;
       starts = starts_in t n ++ replicate (16 - read_in t n) 0;
-    }
-
--- a refusal: zeros beside the number
-abbrev pub refuse : ℕ → Signalling
-refuse n =
-    record {
-      number = n;
-      multiframes = 0;
-      first = 0;
-      losses = 0;
-      held = false;
-      x0 = 0;
-      x1 = 0;
-      x2 = 0;
-      y = 0;
-      starts = replicate 16 0;
     }
 
 unfoldable pub signalling : List ℕ → ℕ → Signalling

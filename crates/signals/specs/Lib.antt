@@ -1,4 +1,5 @@
 pub mod Signalling
 pub mod Lost
+pub mod Answer
 pub mod Entry
 pub mod Follow

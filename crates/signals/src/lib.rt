@@ -4,14 +4,17 @@
 ghost use Rattle.std.specs.Prelude.{◌≡◌, ◌++◌, ◌*◌, ◌≤◌, ◌<◌, length, take, drop};
 ghost use Rattle.line.specs.Bit.{Room};
 ghost use Rattle.signals.specs.Signalling.{signal_at, aligns, abcd_in, xy_in};
-ghost use Rattle.signals.specs.Entry.{slot16_of, filled, refuse, Signalled};
+ghost use Rattle.signals.specs.Answer.{answered};
+ghost use Rattle.signals.specs.Entry.{slot16_of, filled, Signalled};
 ghost use Rattle.signals.specs.Follow.{begins, followed, channels};
 
-// What is answered: the number is 0, or the refusal's with zeros beside it. `starts` has the frame at which each
-// signalling multiframe begins that is read, and zeros behind them.
+use base::Refused;
+
+// What is read. `starts` has the frame at which each signalling multiframe begins that is read, and zeros behind them.
+// kept: no slice in place of `multiframes` and `starts`: there is no heap
+// kept: what `Followed` has stands here again: callers read the fields of an answer, and no part of it
 #[derive(Clone, Copy)]
 pub struct Signalling {
-    pub number: u64,
     pub multiframes: usize,
     pub first: usize,
     pub losses: usize,
@@ -31,6 +34,31 @@ struct Followed {
     first: usize,
     losses: usize,
     held: bool,
+}
+
+impl Followed {
+    // the channels of each signalling multiframe that is read, to its part of the output
+    fn put_abcd(&self, t: &[u8], out: &mut [u8])
+        requires { (length t.now ≤ 256) × (self.now ≡ followed t.now) × (filled t.now ≤ length out.old) }
+        ensures { out.new ≡ abcd_in t.now (length t.now) ++ drop (filled t.now) out.old }
+    {
+        for (m, start) in self.starts[..self.multiframes].iter().enumerate() {
+            let f = *start;
+            let a = 30 * m;
+            put_channels(&t[f..f + 16], &mut out[a..a + 30]);
+        }
+    }
+
+    // frame 0 of the last that is read; X 1 and Y 0 where none is, or alignment is not held
+    fn xy(&self, t: &[u8]) -> u8
+        requires { (length t.now ≤ 256) × (self.now ≡ followed t.now) }
+        ensures { result ≡ xy_in t.now (length t.now) }
+    {
+        if self.held & (0 < self.multiframes) {
+            return t[self.starts[self.multiframes - 1]];
+        }
+        11
+    }
 }
 
 // frame f has the signal
@@ -80,18 +108,12 @@ fn follow(t: &[u8]) -> Followed
             if first == 0 {
                 first = f;
             }
+            held = true;
             if t.len() - f < 16 {
-                return Followed {
-                    multiframes: multiframes,
-                    starts: starts,
-                    first: first,
-                    losses: losses,
-                    held: true,
-                };
+                break;
             }
             starts[multiframes] = f;
             multiframes += 1;
-            held = true;
             wrong = !signal_at(t, f);
             f += 16;
         } else {
@@ -101,11 +123,11 @@ fn follow(t: &[u8]) -> Followed
         }
     }
     Followed {
-        multiframes: multiframes,
-        starts: starts,
-        first: first,
-        losses: losses,
-        held: held,
+        multiframes,
+        starts,
+        first,
+        losses,
+        held,
     }
 }
 
@@ -114,55 +136,9 @@ fn put_channels(t: &[u8], out: &mut [u8])
     requires { (length t.now ≡ 16) × (length out.old ≡ 30) }
     ensures { out.new ≡ channels t.now 0 }
 {
-    for i in 0..15 {
-        out[i] = t[i + 1] / 16;
-    }
-    for i in 15..30 {
-        out[i] = t[i - 14] % 16;
-    }
-}
-
-// those of each that is read, to its part of the output
-fn put_abcd(t: &[u8], found: Followed, out: &mut [u8])
-    requires { (length t.now ≤ 256) × (found ≡ followed t.now) × (filled t.now ≤ length out.old) }
-    ensures { out.new
-        ≡ abcd_in t.now (length t.now) ++ drop (filled t.now) out.old }
-{
-    let starts = found.starts;
-    for m in 0..found.multiframes {
-        let f = starts[m];
-        let a = 30 * m;
-        put_channels(&t[f..f + 16], &mut out[a..a + 30]);
-    }
-}
-
-// frame 0 of the last that is read; X 1 and Y 0 where none is, or alignment is not held
-fn xy(t: &[u8], found: Followed) -> u8
-    requires { (length t.now ≤ 256) × (found ≡ followed t.now) }
-    ensures { result ≡ xy_in t.now (length t.now) }
-{
-    let starts = found.starts;
-    if found.held & (0 < found.multiframes) {
-        return t[starts[found.multiframes - 1]];
-    }
-    11
-}
-
-// a refusal: zeros beside the number
-fn refused(number: u64) -> Signalling
-    ensures { result ≡ refuse number }
-{
-    Signalling {
-        number: number,
-        multiframes: 0,
-        first: 0,
-        losses: 0,
-        held: false,
-        x0: 0,
-        x1: 0,
-        x2: 0,
-        y: 0,
-        starts: [0; 16],
+    for (i, octet) in t[1..].iter().enumerate() {
+        out[i] = octet / 16;
+        out[i + 15] = octet % 16;
     }
 }
 
@@ -181,24 +157,19 @@ fn slot16_of(s: &[u8], q: usize, g: usize) -> [u8; 256]
 }
 
 // The signalling of an image is read: thirty octets for each signalling multiframe go to the output.
-pub fn signals(image: &[u8], out: &mut [u8]) -> Signalling
-    ensures { Signalled image.now out.old result out.new }
+pub fn signals(image: &[u8], out: &mut [u8]) -> Result<Signalling, Refused>
+    ensures { Signalled image.now out.old (answered result) out.new }
 {
-    let located = read::locate(image);
-    if located.number != 0 {
-        return refused(located.number);
-    }
+    let located = read::locate(image)?;
     let octets = slot16_of(image, located.start, located.used);
-    let n = 16 * located.used;
-    let found = follow(&octets[0..n]);
+    let t = &octets[..16 * located.used];
+    let found = follow(t);
     if out.len() < 30 * found.multiframes {
-        return refused(4);
+        return Err(Refused::NoRoom);
     }
-    let xy = xy(&octets[0..n], found);
-    put_abcd(&octets[0..n], found, out);
-    let starts = found.starts;
-    Signalling {
-        number: 0,
+    let xy = found.xy(t);
+    found.put_abcd(t, out);
+    Ok(Signalling {
         multiframes: found.multiframes,
         first: found.first,
         losses: found.losses,
@@ -207,6 +178,6 @@ pub fn signals(image: &[u8], out: &mut [u8]) -> Signalling
         x1: xy / 2 % 2,
         x2: xy % 2,
         y: xy / 4 % 2,
-        starts: starts,
-    }
+        starts: found.starts,
+    })
 }
