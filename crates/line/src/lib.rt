@@ -70,12 +70,21 @@ pub fn word(s: &[u8], p: usize) -> u8
     octet(s, p) & 0x7f
 }
 
-// the eight octets from i on
+// the eight octets from i on; with `first_chunk` or `copy_from_slice` the compiler leaves a comparison at each window
 fn eight(s: &[u8], i: usize) -> [u8; 8]
     requires { i + 8 ≤ length s.now }
     ensures { result ≡ take 8 (drop i s.now) }
 {
-    *s[i..].first_chunk().unwrap()
+    [
+        s[i],
+        s[i + 1],
+        s[i + 2],
+        s[i + 3],
+        s[i + 4],
+        s[i + 5],
+        s[i + 6],
+        s[i + 7],
+    ]
 }
 
 // the eight octets from i on as a number that, turned, the 64 bits from there on spell
