@@ -1,7 +1,7 @@
 // Signalling in slot 16, heard frame by frame.
 #![tactic(auto)]
 
-ghost use Rattle.std.specs.Prelude.{if◌then◌else◌, ◌≡◌, [], ◌∷◌, ◌++◌, ◌-◌, ◌^◌, ◌≤◌, drop};
+ghost use Rattle.std.specs.Prelude.{◌≡◌, ◌^◌, ◌≤◌};
 ghost use Rattle.heard.specs.Hearing.{Few, nothing, tallied, after_frame, is_held, xy_of, is_read, began_at};
 ghost use Rattle.heard.specs.Hearing.{channel_of};
 
@@ -20,134 +20,97 @@ pub struct Hearing {
     pub row: [u8; 16],
 }
 
-// Nothing is heard.
-pub fn nothing() -> Hearing
-    ensures { result ≡ nothing }
-{
-    Hearing {
-        frames: 0,
-        passed: 0,
-        wrong: false,
-        multiframes: 0,
-        first: 0,
-        losses: 0,
-        xy: 11,
-        row: [0; 16],
-    }
-}
-
-fn chosen(test: bool, a: usize, b: usize) -> usize
-    ensures { result ≡ (if test then a else b) }
-{
-    if test {
-        return a;
-    }
-    b
-}
-
-fn chosen_octet(test: bool, a: u8, b: u8) -> u8
-    ensures { result ≡ (if test then a else b) }
-{
-    if test {
-        return a;
-    }
-    b
-}
-
-// the row without its oldest octet, and one behind it
-fn moved(row: [u8; 16], octet: u8) -> [u8; 16]
-    ensures { result ≡ drop 1 row ++ octet ∷ [] }
-{
-    let mut next = [octet; 16];
-    for i in 0..15 {
-        next[i] = row[i + 1];
-    }
-    next
-}
-
-// one frame more, behind which so many frames of a signalling multiframe have passed
-fn tallied(h: Hearing, octet: u8, passed: usize, wrong: bool) -> Hearing
-    requires { Few h (2 ^ 40) }
-    ensures { result ≡ tallied h octet passed wrong }
-{
-    let old = h.row;
-    let row = moved(old, octet);
-    Hearing {
-        frames: h.frames + 1,
-        passed: passed,
-        wrong: wrong,
-        multiframes: chosen(passed == 16, h.multiframes + 1, h.multiframes),
-        first: chosen((h.first == 0) & (passed == 1), h.frames, h.first),
-        losses: chosen((h.passed == 16) & (passed == 0), h.losses + 1, h.losses),
-        xy: chosen_octet(passed == 16, row[0], h.xy),
-        row: row,
-    }
-}
-
-// One frame more is heard, its slot 16 this octet.
-pub fn hear(h: Hearing, octet: u8) -> Hearing
-    requires { Few h (2 ^ 40) }
-    ensures { result ≡ after_frame h octet }
-{
-    let row = h.row;
-    let signal = octet / 16 == 0;
-    if h.passed == 0 {
-        if signal & (row[15] != 0) {
-            return tallied(h, octet, 1, !signal);
+impl Hearing {
+    // Nothing is heard.
+    pub fn nothing() -> Hearing
+        ensures { result ≡ nothing }
+    {
+        Hearing {
+            frames: 0,
+            passed: 0,
+            wrong: false,
+            multiframes: 0,
+            first: 0,
+            losses: 0,
+            xy: 11,
+            row: [0; 16],
         }
-        return tallied(h, octet, 0, false);
     }
-    if h.passed == 16 {
-        if h.wrong & !signal {
-            return tallied(h, octet, 0, false);
+
+    // one frame more, behind which so many frames of a signalling multiframe have passed
+    fn tallied(self, octet: u8, passed: usize, wrong: bool) -> Hearing
+        requires { Few self (2 ^ 40) }
+        ensures { result ≡ tallied self octet passed wrong }
+    {
+        let mut row = [octet; 16];
+        row[..15].copy_from_slice(&self.row[1..]);
+        let is_whole = passed == 16;
+        let is_first = (self.first == 0) & (passed == 1);
+        let is_loss = (self.passed == 16) & (passed == 0);
+        Hearing {
+            frames: self.frames + 1,
+            passed,
+            wrong,
+            multiframes: self.multiframes + is_whole as usize,
+            first: if is_first { self.frames } else { self.first },
+            losses: self.losses + is_loss as usize,
+            xy: if is_whole { row[0] } else { self.xy },
+            row,
         }
-        return tallied(h, octet, 1, !signal);
     }
-    tallied(h, octet, h.passed + 1, h.wrong)
-}
 
-// alignment is held
-pub fn is_held(h: Hearing) -> bool
-    ensures { result ≡ is_held h }
-{
-    h.passed != 0
-}
-
-// frame 0 of the last that is read; X 1 and Y 0 where none is, or alignment is not held
-pub fn xy(h: Hearing) -> u8
-    ensures { result ≡ xy_of h }
-{
-    if h.passed != 0 {
-        return h.xy;
+    // One frame more is heard, its slot 16 this octet.
+    pub fn hear(self, octet: u8) -> Hearing
+        requires { Few self (2 ^ 40) }
+        ensures { result ≡ after_frame self octet }
+    {
+        let signal = octet / 16 == 0;
+        match self.passed {
+            0 if signal & (self.row[15] != 0) => self.tallied(octet, 1, !signal),
+            0 => self.tallied(octet, 0, false),
+            16 if self.wrong & !signal => self.tallied(octet, 0, false),
+            16 => self.tallied(octet, 1, !signal),
+            passed => self.tallied(octet, passed + 1, self.wrong),
+        }
     }
-    11
-}
 
-// A signalling multiframe has just become whole.
-pub fn is_read(h: Hearing) -> bool
-    ensures { result ≡ is_read h }
-{
-    h.passed == 16
-}
-
-// the frame with which it began
-pub fn began(h: Hearing) -> usize
-    ensures { result ≡ began_at h }
-{
-    if h.frames < 16 {
-        return 0;
+    // alignment is held
+    pub fn is_held(&self) -> bool
+        ensures { result ≡ is_held self.now }
+    {
+        self.passed != 0
     }
-    h.frames - 16
-}
 
-// A to D of its channel c
-pub fn channel(h: Hearing, c: usize) -> u8
-    requires { (1 ≤ c) × (c ≤ 30) }
-    ensures { result ≡ channel_of h c }
-{
-    let row = h.row;
-    if c <= 15 {
-        return row[c] / 16;
+    // frame 0 of the last that is read; X 1 and Y 0 where none is, or alignment is not held
+    pub fn xy(&self) -> u8
+        ensures { result ≡ xy_of self.now }
+    {
+        if self.is_held() { self.xy } else { 11 }
     }
-    row[c - 15] % 16
+
+    // A signalling multiframe has just become whole.
+    pub fn is_read(&self) -> bool
+        ensures { result ≡ is_read self.now }
+    {
+        self.passed == 16
+    }
+
+    // the frame with which it began
+    pub fn began(&self) -> usize
+        ensures { result ≡ began_at self.now }
+    {
+        self.frames.saturating_sub(16)
+    }
+
+    // A to D of its channel c
+    pub fn channel(&self, c: usize) -> u8
+        requires { (1 ≤ c) × (c ≤ 30) }
+        ensures { result ≡ channel_of self.now c }
+    {
+        if c <= 15 {
+            self.row[c] / 16
+        } else {
+            self.row[c - 15] % 16
+        }
+    }
 }
