@@ -1,11 +1,12 @@
 -- For private functions alone. What the search's windows say of the 56 places from octet i on: a set of them is a
 -- number whose bit n - o, n mostly 63, stands for the place 8i + o. A place that counts has its bit 1, and a 1 too many
 -- costs only time.
-use Rattle.std.specs.Prelude.{ℕ, ◌+◌, ◌-◌, ◌*◌, ◌≤◌, ◌<◌, ◌≡◌, Bool, false, List, ◌⊎◌, get_or}
+use Rattle.std.specs.Prelude.{ℕ, ◌+◌, ◌-◌, ◌*◌, ◌≤◌, ◌<◌, ◌≡◌, Bool, false, List, ◌⊎◌, get_or, Option, Some, None}
 use Rattle.line.specs.Bit.{field}
 use Rattle.line.specs.Window.{turned, bit_of, One}
 use Rattle.line.specs.Signal.{signal}
 use Rattle.align.specs.Stands.{Basic, Pair, Stands}
+use Rattle.align.specs.declared.Hit.{Hit}
 
 -- r has the places with P
 abbrev pub Holds : (ℕ → Type 0) → ℕ → ℕ → ℕ → Type 0
@@ -14,6 +15,13 @@ Holds P i n r = (o : ℕ) → o < 56 → P (8 * i + o) → One r (n - o)
 -- no place from a to b has P
 abbrev pub NoneFrom : (ℕ → Type 0) → ℕ → ℕ → Type 0
 NoneFrom P a b = (q : ℕ) → a ≤ q → q < b → P q → ⊥
+
+-- the first window from octet i on that has places with basic alignment, before octet `end`, and its places; or there is
+-- none
+abbrev pub Hits : List ℕ → ℕ → ℕ → Option Hit → Type 0
+Hits s i end (Some h) =
+    (i ≤ h.octet) × (h.octet < end) × NoneFrom (Basic s) (8 * i) (8 * h.octet) × Holds (Basic s) h.octet 63 h.places
+Hits s i end None = NoneFrom (Basic s) (8 * i) (8 * end)
 
 -- m has the octets of each of the first c marks
 abbrev pub Marks : List ℕ → ℕ → ℕ → List ℕ → Type 0

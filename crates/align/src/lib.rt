@@ -8,7 +8,7 @@ ghost use Rattle.base.specs.Tab.{least};
 ghost use Rattle.line.specs.Bit.{Room};
 ghost use Rattle.align.specs.Place.{basic, signal_at, again_at, pair_at, found_in, place_of, k_of, start_of};
 ghost use Rattle.align.specs.Stands.{Basic};
-ghost use Rattle.align.specs.Window.{Holds, NoneFrom, Marks, SignalIn, Signals, Pairs, Paired, Wanted};
+ghost use Rattle.align.specs.Window.{Holds, NoneFrom, Hits, Marks, SignalIn, Signals, Pairs, Paired, Wanted};
 
 // the place that stands, with its least k; where none does, the first with basic alignment, if there is one
 #[derive(Clone, Copy)]
@@ -153,32 +153,23 @@ fn starts(s: &[u8], i: usize) -> u64
     with_bit_2 & zeros(s, i)
 }
 
-// the first window from octet i on that has such places, with these, or one past the end; four windows go by for each
-// look at the end
-fn next_hit(s: &[u8], i: usize, end: usize) -> Hit
+// the first window from octet i on that has such places, with these; four windows go by for each look at the end
+fn next_hit(s: &[u8], i: usize, end: usize) -> Option<Hit>
     requires { (length s.now < 2 ^ 60) × (i ≤ length s.now) × (end ≡ length s.now + 1 - 2048) }
-    ensures { (i ≤ result.octet)
-        × (result.octet ≤ length s.now)
-        × NoneFrom (Basic s.now) (8 * i) (8 * result.octet)
-        × (result.octet < end → Holds (Basic s.now) result.octet 63 result.places) }
+    ensures { Hits s.now i end result }
 {
     let mut j = i;
     while j < end {
         for w in 0..4 {
-            let places = starts(s, j + 7 * w);
+            let octet = j + 7 * w;
+            let places = starts(s, octet);
             if places != 0 {
-                return Hit {
-                    octet: j + 7 * w,
-                    places,
-                };
+                return (octet < end).then_some(Hit { octet, places });
             }
         }
         j += 28;
     }
-    Hit {
-        octet: j,
-        places: 0,
-    }
+    None
 }
 
 // the octets of each of the 32 marks
@@ -255,18 +246,14 @@ fn onward(s: &[u8], p: usize, end: usize, known: bool) -> usize
         return p;
     }
     let mut i = p / 8;
-    loop {
-        let hit = next_hit(s, i, end);
-        i = hit.octet;
-        if end <= i {
-            return 8 * i;
-        }
-        let o = u64::leading_zeros(wanted(s, i, hit.places, known)) as usize;
+    while let Some(hit) = next_hit(s, i, end) {
+        let o = wanted(s, hit.octet, hit.places, known).leading_zeros() as usize;
         if o < 56 {
-            return 8 * i + o;
+            return 8 * hit.octet + o;
         }
-        i += 7;
+        i = hit.octet + 7;
     }
+    8 * i.max(end)
 }
 
 // the first place that stands, with its least k, or else the first with basic alignment, which is noted on the way
