@@ -1,23 +1,21 @@
 -- A look in numbers is the reading from the start's bit on.
-use Prim.Native.Nat.{ℕ, ◌+◌, ◌-◌, ◌*◌, ◌/◌, ◌%◌, ◌≤◌, ◌<◌}
+use Prim.Native.Nat.{ℕ, ◌+◌, ◌-◌, ◌*◌, ◌/◌, ◌%◌, ◌^◌, ◌≤◌, ◌<◌}
 use mathlib.Core.Path.{◌≡◌, refl, sym, ap, ap₂, ◌∙◌}
 use mathlib.Core.List.{List}
 use Rattle.std.specs.Prelude.{Option, None, Some}
 use native.Mathlib.Omega.{arith}
-use borrow.Author.Tests.{eq-eqb, ne_eqb}
-use lib.Dec.{eqb}
 use lib.ListN.{length, drop, length-drop}
+use Rattle.line.specs.Bit.{Room}
 use Rattle.align.specs.Place.{start_of}
 use Rattle.base.specs.Tab.{first}
-use Rattle.base.proofs.ChoiceLaws.{if_both}
 use Rattle.measure.specs.Reading.{whole, loss_from, lost_at, used_of, payload_of, slot0_of, word_errors, word_bits, compared, disagreeing, far_end}
 use Rattle.measure.specs.declared.Tracked.{Tracked}
 use Rattle.measure.proofs.FromLaws.{from_late, from_among, used_upto}
-use Rattle.growth.specs.Growth.{Grown, kept_of, gone_of, later_by, read_on, read_from}
+use Rattle.growth.specs.Growth.{Grown, kept_of, gone_of, later_by, read_on, read_from, after}
 use Rattle.growth.specs.Small.{Small}
 use Rattle.growth.specs.declared.Line.{Line}
 use Rattle.growth.proofs.Counts.{Leaves, payload_leaves, slot0_leaves, words_few, bits_few}
-use Rattle.chunk.specs.Look.{Few, lost_by, gone_by, gaining, still, Gains, told, Looks, Tracks}
+use Rattle.chunk.specs.Look.{Few, gaining, still, Gains, told, Looks, Tracks}
 use Rattle.chunk.specs.declared.Seen.{Seen}
 use Rattle.chunk.specs.declared.Gain.{Gain}
 use Rattle.chunk.proofs.GainLaws.{no_gain, gains_none, gain_of, gains_of}
@@ -49,21 +47,11 @@ few_more r m n l h =
 pub looks_as : {x y : Grown} {s : List ℕ} {r : Seen} → x ≡ y → Looks y s r → Looks x s r
 looks_as e l = rw e l
 
--- The loss, and what is let go. A frame of loss is never 0.
+-- The loss, and what is let go
 
-abbrev Late : Option ℕ → Type 0
-Late l = (k : ℕ) → l ≡ Some k → 4 ≤ k
-
-lost_is : (u f : ℕ) (l : Option ℕ) → Late l → f ≡ lost_at l → lost_at (later_by (16 * u) l) ≡ lost_by u f
-lost_is u f None h e = rw (eq-eqb f 0 e)
-lost_is u f (Some k) h e = rw (ne_eqb f 0 (λ z. omega (arith, h k refl))) (ap (λ x. 16 * u + x) (sym e))
-
-gone_is : (n g f : ℕ) (l : Option ℕ) → Late l → f ≡ lost_at l → gone_of n g l ≡ gone_by n g f
-gone_is n g f None h e = rw (eq-eqb f 0 e)
-gone_is n g f (Some k) h e = rw (ne_eqb f 0 (λ z. omega (arith, h k refl)))
-
-pub gone_within : (n g f x : ℕ) → 512 * g ≤ n → x ≡ gone_by n g f → x ≤ n
-gone_within n g f x h e = rw e (if_both (λ y. y ≤ n) (eqb f 0) (omega arith) (omega arith))
+pub gone_within : (n g x : ℕ) (l : Option ℕ) → 512 * g ≤ n → x ≡ gone_of n g l → x ≤ n
+gone_within n g x None h e = omega (arith, e)
+gone_within n g x (Some f) h e = omega (arith, e)
 
 lost_few : (s : List ℕ) (q h m : ℕ) → lost_at (loss_from s q h m) ≤ 16 * m
 lost_few s q h m = go (loss_from s q h m) refl
@@ -85,43 +73,47 @@ pub whole_bits : (s : List ℕ) (q g : ℕ) → 1 ≤ whole s q → g ≤ whole 
 unfolding whole
 whole_bits s q g o l = omega arith
 
+-- the used ones are there
+pub tracked_room : (s : List ℕ) (q h : ℕ) (x : Tracked) → Tracks s q h x → length s ≤ 2 ^ 30 → 1 ≤ whole s q → Room s q (4096 * x.used)
+tracked_room s q h x t n o = record { countable = omega arith; there = whole_bits s q x.used o t.at_most }
+
 -- what `track` tells, with the number of whole multiframes in octets
-pub tracks : (s : List ℕ) (q h m : ℕ) (x : Tracked) → m ≡ (8 * length s - q) / 4096 → x.lost ≡ lost_at (loss_from s q h m)
-    → x.used ≡ used_of (loss_from s q h m) m → h ≤ x.used → x.used ≤ m → x.words ≡ word_errors s (q + 4096 * h) (x.used - h)
-    → x.wordbits ≡ word_bits s (q + 4096 * h) (x.used - h) → Tracks s q h x
+pub tracks : (s : List ℕ) (q h m : ℕ) (x : Tracked) → m ≡ (8 * length s - q) / 4096
+    → (x.loss ≡ loss_from s q h m) × (x.used ≡ used_of (loss_from s q h m) m) × (h ≤ x.used) × (x.used ≤ m)
+    × (x.words ≡ word_errors s (q + 4096 * h) (x.used - h)) × (x.wordbits ≡ word_bits s (q + 4096 * h) (x.used - h))
+    → Tracks s q h x
 unfolding whole
-tracks s q h m x e lost used least most words bits =
+tracks s q h m x e t =
     record {
-      its_lost = lost ∙ ap (λ y. lost_at (loss_from s q h y)) e;
-      its_used = used ∙ ap (λ y. used_of (loss_from s q h y) y) e;
-      at_least = least;
+      its_loss = t.0 ∙ ap (loss_from s q h) e;
+      its_used = t.1 ∙ ap (λ y. used_of (loss_from s q h y) y) e;
+      at_least = t.2;
       at_most = omega arith;
-      its_words = words;
-      its_wordbits = bits;
+      its_words = t.4;
+      its_wordbits = t.5;
     }
 
--- a look at the image: f is the loss or 0, and g are used
-module _ (c : Line) (s : List ℕ) (q h g f : ℕ) (gain : Gain) (eq : q ≡ start_of c.found % 8) (eh : h ≡ kept_of c.used)
-    (eg : g ≡ used_of (loss_from s q h (whole s q)) (whole s q)) (ef : f ≡ lost_at (loss_from s q h (whole s q))) (k : Gains s q h g gain) where
-  is_read : read_from c s ≡ read_on c s q h (loss_from s q h (whole s q)) g
+-- a look at the image: l is the loss, and g are used
+module _ (c : Line) (s : List ℕ) (q h g : ℕ) (l : Option ℕ) (gain : Gain) (eq : q ≡ start_of c.found % 8) (eh : h ≡ kept_of c.used)
+    (eg : g ≡ used_of (loss_from s q h (whole s q)) (whole s q)) (ef : l ≡ loss_from s q h (whole s q)) (k : Gains s q h g gain) where
+  is_read : read_from c s ≡ read_on c s q h l g
   is_read =
       sym (
-      ap (read_on c s q h (loss_from s q h (whole s q))) eg
+      ap₂ (read_on c s q h) ef eg
       ∙ ap₂ (λ b a. read_on c s b a (loss_from s b a (whole s b)) (used_of (loss_from s b a (whole s b)) (whole s b))) eq eh
       )
 
-  looks_from : (gone lost from : ℕ) (line : Line) → gone ≡ gone_by (length s) g f → lost ≡ lost_by (c.used - h) f
+  looks_from : (gone lost from : ℕ) (line : Line) → gone ≡ gone_of (length s) g l → lost ≡ lost_at (later_by (16 * (c.used - h)) l)
       → ((Y : List ℕ → ℕ → ℕ → List ℕ) (u : ℕ) → Leaves Y u → Y s (q + 4096 * h) gain.multiframes ≡ Y s from gain.multiframes)
       → from + 4096 * gain.multiframes ≤ 8 * length s → line ≡ gaining c gain gone lost
       → Looks (read_from c s) s (record { line = line; gone = gone; multiframes = gain.multiframes; from = from })
   unfolding read_on
   looks_from gone lost from line egone elost out there eline =
       let m = whole s q in
-      let l = loss_from s q h m in
       let n = gain.multiframes in
       let en : g - h ≡ n = sym k.its_multiframes in
-      let eb : gone_of (length s) g l ≡ gone = gone_is (length s) g f l (from_late s q h m) ef ∙ sym egone in
-      let el : lost_at (later_by (16 * (c.used - h)) l) ≡ lost = lost_is (c.used - h) f l (from_late s q h m) ef ∙ sym elost in
+      let eb : gone_of (length s) g l ≡ gone = sym egone in
+      let el : lost_at (later_by (16 * (c.used - h)) l) ≡ lost = sym elost in
       let output : (Y : List ℕ → ℕ → ℕ → List ℕ) (u : ℕ) → Leaves Y u → Y s (q + 4096 * h) (g - h) ≡ Y s from n =
       λ Y u k. ap (Y s (q + 4096 * h)) en ∙ out Y u k in
       let same : (read_on c s q h l g).line ≡ line =
@@ -145,16 +137,16 @@ module _ (c : Line) (s : List ℕ) (q h g f : ℕ) (gain : Gain) (eq : q ≡ sta
           slot0 = output slot0_of 16 slot0_leaves i;
         };
         there = there;
-        within = gone_within (length s) g f gone (whole_octets s q g (omega (arith, used_upto s q h m))) egone;
+        within = gone_within (length s) g gone l (whole_octets s q g (omega (arith, eg, used_upto s q h m))) egone;
       }
 
 -- one at an image in which x was tracked
 pub follows : (c : Line) (s : List ℕ) (q h : ℕ) (x : Tracked) (gain : Gain) → q ≡ start_of c.found % 8 → h ≡ kept_of c.used
     → 1 ≤ whole s q → Tracks s q h x → Gains s q h x.used gain → (gone lost : ℕ) (line : Line)
-    → gone ≡ gone_by (length s) x.used x.lost → lost ≡ lost_by (c.used - h) x.lost → line ≡ gaining c gain gone lost
+    → gone ≡ gone_of (length s) x.used x.loss → lost ≡ lost_at (later_by (16 * (c.used - h)) x.loss) → line ≡ gaining c gain gone lost
     → Looks (read_from c s) s (record { line = line; gone = gone; multiframes = gain.multiframes; from = q + 4096 * h })
 follows c s q h x gain eq eh o t k gone lost line egone elost eline =
-    looks_from c s q h x.used x.lost gain eq eh t.its_used t.its_lost k gone lost (q + 4096 * h) line egone elost
+    looks_from c s q h x.used x.loss gain eq eh t.its_used t.its_loss k gone lost (q + 4096 * h) line egone elost
     (λ Y u l. refl)
     (omega (arith, whole_bits s q x.used o t.at_most, t.at_least, k.its_multiframes)) eline
 
@@ -184,7 +176,7 @@ stays c s q h m eq eh em l =
     let w : whole s q ≤ h = omega arith in
     let e = none_from s q h (whole s q) w in
     let one : 512 * (whole s q - 1) ≡ 0 = omega arith in
-    looks_from c s q h (whole s q) 0 no_gain eq eh (sym (ap (λ o. used_of o (whole s q)) e)) (sym (ap lost_at e))
+    looks_from c s q h (whole s q) None no_gain eq eh (sym (ap (λ o. used_of o (whole s q)) e)) (sym e)
     (gains_none s q h (whole s q) w) 0 0 0 (still c).line (sym one) refl (λ Y u k. k.empty s (q + 4096 * h) ∙ sym (k.empty s 0))
     (omega arith) (nothing_gained c)
 
@@ -200,7 +192,7 @@ looks_line {x} {s} {r} line e l =
     }
 
 -- at most 1,024 octets are kept
-pub kept_few : (s : List ℕ) (q h : ℕ) (x : Tracked) (gone : ℕ) → q < 8 → Tracks s q h x → gone ≡ gone_by (length s) x.used x.lost
+pub kept_few : (s : List ℕ) (q h : ℕ) (x : Tracked) (gone : ℕ) → q < 8 → Tracks s q h x → gone ≡ gone_of (length s) x.used x.loss
     → length (drop gone s) ≤ 1024
 unfolding whole
 kept_few s q h x gone b t e =
@@ -209,7 +201,7 @@ kept_few s q h x gone b t e =
     omega (
       arith,
       length-drop gone s,
-      e ∙ sym (gone_is (length s) x.used x.lost l (from_late s q h m) t.its_lost) ∙ ap (λ g. gone_of (length s) g l) t.its_used,
+      e ∙ ap₂ (gone_of (length s)) t.its_used t.its_loss,
       fits l,
     )
   where
@@ -219,13 +211,13 @@ kept_few s q h x gone b t e =
 
 -- what was tracked is little
 pub tracked_few : (s : List ℕ) (q h : ℕ) (x : Tracked) → Tracks s q h x
-    → (512 * x.used ≤ length s) × (x.lost ≤ length s) × (x.words ≤ length s) × (x.wordbits ≤ length s)
+    → (512 * x.used ≤ length s) × (lost_at x.loss ≤ length s) × (x.words ≤ length s) × (x.wordbits ≤ length s)
 tracked_few s q h x t =
     let p = q + 4096 * h in
     let n = x.used - h in
     let o = whole_octets s q (whole s q) (omega arith) in (
       omega (arith, t.at_most),
-      omega (arith, t.its_lost, lost_few s q h (whole s q)),
+      omega (arith, ap lost_at t.its_loss, lost_few s q h (whole s q)),
       omega (arith, t.at_most, t.its_words, words_few s p n),
       omega (arith, t.at_most, t.its_wordbits, bits_few s p n),
     )
@@ -242,14 +234,14 @@ near_seen c near q h x =
     }
 
 module _ (c : Line) (near : List ℕ) (q h : ℕ) (x : Tracked) (eq : q ≡ start_of c.found % 8) (eh : h ≡ kept_of c.used)
-    (t : Tracks near q h x) (z : x.lost ≡ 0) (o : 1 ≤ x.used) where
+    (t : Tracks near q h x) (z : x.loss ≡ None) (o : 1 ≤ x.used) where
   pub near_looks : Looks (read_from c near) near (near_seen c near q h x)
   near_looks =
       follows c near q h x (gain_of near q h x) eq eh (omega (arith, t.at_most)) t (gains_of near q h x t) (512 * (x.used - 1)) 0
-      (near_seen c near q h x).line (rw (eq-eqb x.lost 0 z)) (rw (eq-eqb x.lost 0 z)) refl
+      (near_seen c near q h x).line (rw z) (rw z) refl
 
-  module _ (far : List ℕ) (y : Tracked) (u : Tracks far q 1 y) (gone lost : ℕ) (eg : gone ≡ gone_by (length far) y.used y.lost)
-      (el : lost ≡ lost_by (c.used + (x.used - h) - 1) y.lost) where
+  module _ (far : List ℕ) (y : Tracked) (u : Tracks far q 1 y) (gone lost : ℕ) (eg : gone ≡ gone_of (length far) y.used y.loss)
+      (el : lost ≡ lost_at (later_by (16 * (c.used + (x.used - h) - 1)) y.loss)) where
     -- and the second
     far_looks : Looks (read_from (read_from c near).line far) far (record {
       line = gaining (near_seen c near q h x).line (gain_of far q 1 y) gone lost;
@@ -295,23 +287,22 @@ module _ (c : Line) (near : List ℕ) (q h : ℕ) (x : Tracked) (eq : q ≡ star
         → Looks (read_from (read_from c near).line far) far (record { line = line; gone = gone; multiframes = y.used - 1; from = q + 4096 })
     far_looks_by line e = looks_line line e far_looks
 
+    pub told_both : (line : Line) → line ≡ (read_from (read_from c near).line far).line
+        → after (read_from c near) (read_from (read_from c near).line far)
+        ≡ after (told near (near_seen c near q h x)) (told far (record { line = line; gone = gone; multiframes = y.used - 1; from = q + 4096 }))
+    told_both line e = ap₂ after near_looks.tells (far_looks_by line e).tells
+
 -- without loss all whole multiframes are used
-pub used_all : (s : List ℕ) (q h : ℕ) (x : Tracked) → Tracks s q h x → x.lost ≡ 0 → x.used ≡ whole s q
-used_all s q h x t z = t.its_used ∙ go (loss_from s q h (whole s q)) refl (sym t.its_lost ∙ z)
-  where
-    go : (l : Option ℕ) → loss_from s q h (whole s q) ≡ l → lost_at l ≡ 0 → used_of l (whole s q) ≡ whole s q
-    go None e k = refl
-    go (Some f) e k = absurd (omega (arith, from_late s q h (whole s q) f e))
+pub used_all : (s : List ℕ) (q h : ℕ) (x : Tracked) → Tracks s q h x → x.loss ≡ None → x.used ≡ whole s q
+used_all s q h x t z = t.its_used ∙ ap (λ l. used_of l (whole s q)) (sym t.its_loss ∙ z)
 
 -- after one nothing is kept
-pub lost_keeps_none : (c : Line) (s : List ℕ) (q : ℕ) (x : Tracked) → q ≡ start_of c.found % 8 → Tracks s q (kept_of c.used) x
-    → (x.lost ≡ 0 → ⊥) → length (read_from c s).window ≡ 0
+pub lost_keeps_none : (c : Line) (s : List ℕ) (q f : ℕ) (x : Tracked) → q ≡ start_of c.found % 8 → Tracks s q (kept_of c.used) x
+    → x.loss ≡ Some f → length (read_from c s).window ≡ 0
 unfolding read_on
-lost_keeps_none c s q x eq t n =
+lost_keeps_none c s q f x eq t z =
     let h = kept_of c.used in
-    let l = loss_from s q h (whole s q) in
     let g = x.used in
-    let e : gone_of (length s) g l ≡ length s =
-    gone_is (length s) g x.lost l (from_late s q h (whole s q)) t.its_lost ∙ rw (ne_eqb x.lost 0 n) in
-    ap (λ (y : Grown). length y.window) (is_read c s q h g x.lost (gain_of s q h x) eq refl t.its_used t.its_lost (gains_of s q h x t))
-    ∙ omega (arith, length-drop (gone_of (length s) g l) s, e)
+    let e : gone_of (length s) g x.loss ≡ length s = ap (gone_of (length s) g) z in
+    ap (λ (y : Grown). length y.window) (is_read c s q h g x.loss (gain_of s q h x) eq refl t.its_used t.its_loss (gains_of s q h x t))
+    ∙ omega (arith, length-drop (gone_of (length s) g x.loss) s, e)

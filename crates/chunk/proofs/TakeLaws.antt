@@ -1,5 +1,7 @@
 -- A chunk is taken in one look or in two.
-use Rattle.std.specs.Prelude.{if◌then◌else◌}
+use Rattle.std.specs.Prelude.{None, Result, Ok, Err}
+use Rattle.base.specs.declared.Refused.{Refused}
+use Rattle.base.specs.declared.Refused.TheVariants.{NoRoom}
 use Prim.Native.Nat.{ℕ, ◌+◌, ◌-◌, ◌*◌, ◌/◌, ◌%◌, ◌≤◌, ◌<◌}
 use mathlib.Core.Path.{◌≡◌, refl, sym, ap, ap₂, ◌∙◌, subst}
 use mathlib.Core.Bool.{true, false}
@@ -21,11 +23,11 @@ use Rattle.growth.proofs.Bounds.{grown_short, grown_small}
 use Rattle.growth.proofs.SearchCut.{grown_cut}
 use Rattle.growth.proofs.ReadCut.{found_reads}
 use Rattle.chunk.specs.Look.{told, Looks, Stood, Tracks}
-use Rattle.chunk.specs.Taking.{lacks_room, lacking, taking, over, Takes}
+use Rattle.chunk.specs.Taking.{lacks_room, taking_if, over, Takes}
 use Rattle.chunk.specs.declared.Seen.{Seen}
 use Rattle.chunk.specs.declared.Took.{Took}
-use Rattle.chunk.proofs.BufferLaws.{to_end}
-use Rattle.chunk.proofs.FollowLaws.{looks_as, near_seen, near_looks}
+use Rattle.chunk.proofs.BufferLaws.{to_end, filled}
+use Rattle.chunk.proofs.FollowLaws.{looks_as, whole_is, used_all, near_seen, near_looks}
 
 pub has_room : (a b n : ℕ) → lacks_room a b n ≡ false → (496 * n ≤ a) × (16 * n ≤ b)
 unfolding lacks_room
@@ -33,32 +35,26 @@ has_room a b n h =
     let f = (or-eq-false-eq-eq-false-and-eq-false (ltb a (496 * n)) (ltb b (16 * n))).0 h in
     (ltb-false a (496 * n) f.0, ltb-false b (16 * n) f.1)
 
-pub takes_as : {x y : Grown} {c : Line} {fill : ℕ} {w p o : List ℕ} {r : Took} {w' p' o' : List ℕ} → x ≡ y
-    → Takes y c fill w p o r w' p' o' → Takes x c fill w p o r w' p' o'
+pub takes_as : {x y : Grown} {w p o : List ℕ} {r : Result Took Refused} {w' p' o' : List ℕ} → x ≡ y → Takes y w p o r w' p' o'
+    → Takes x w p o r w' p' o'
 takes_as e t = rw e t
 
-module _ (c : Line) (fill : ℕ) (w p o : List ℕ) where
+module _ (w p o : List ℕ) where
   -- an output lacks room
-  pub not_taken : (x : Grown) → lacks_room (length p) (length o) x.multiframes ≡ true
-      → Takes x c fill w p o (lacking c fill) w p o
+  pub not_taken : (x : Grown) → lacks_room (length p) (length o) x.multiframes ≡ true → Takes x w p o (Err NoRoom) w p o
   not_taken x h =
-      record {
-        its_answer = sym (ap (λ t. if t then lacking c fill else taking x) h);
-        its_window = refl;
-        its_payload = refl;
-        its_slot0 = refl;
-      }
+      record { its_answer = sym (ap (λ t. taking_if t x) h); its_window = refl; its_payload = refl; its_slot0 = refl }
 
   -- both have it
   taken : (x : Grown) (n : ℕ) → n ≡ length x.window → length x.payload ≡ 496 * x.multiframes
       → length x.slot0 ≡ 16 * x.multiframes → lacks_room (length p) (length o) x.multiframes ≡ false
       → (w' p' o' : List ℕ) → w' ≡ over x.window w → p' ≡ x.payload ++ drop (496 * x.multiframes) p
       → o' ≡ x.slot0 ++ drop (16 * x.multiframes) o
-      → Takes x c fill w p o (record { number = 0; line = x.line; fill = n; multiframes = x.multiframes }) w' p' o'
+      → Takes x w p o (Ok (record { line = x.line; fill = n; multiframes = x.multiframes })) w' p' o'
   taken x n en ep eo h w' p' o' hw hp ho =
       record {
-        its_answer = (λ i. record { number = 0; line = x.line; fill = en i; multiframes = x.multiframes })
-            ∙ sym (ap (λ t. if t then lacking c fill else taking x) h);
+        its_answer = ap (λ m. Ok (record { line = x.line; fill = m; multiframes = x.multiframes })) en
+            ∙ sym (ap (λ t. taking_if t x) h);
         its_window = hw;
         its_payload = hp ∙ ap (λ z. x.payload ++ drop z p) (sym ep);
         its_slot0 = ho ∙ ap (λ z. x.slot0 ++ drop z o) (sym eo);
@@ -69,7 +65,7 @@ module _ (c : Line) (fill : ℕ) (w p o : List ℕ) where
       → lacks_room (length p) (length o) r.multiframes ≡ false → (w' p' o' : List ℕ) → w' ≡ over (drop r.gone s) w
       → p' ≡ payload_of s r.from r.multiframes ++ drop (496 * r.multiframes) p
       → o' ≡ slot0_of s r.from r.multiframes ++ drop (16 * r.multiframes) o
-      → Takes (told s r) c fill w p o (record { number = 0; line = r.line; fill = n; multiframes = r.multiframes }) w' p' o'
+      → Takes (told s r) w p o (Ok (record { line = r.line; fill = n; multiframes = r.multiframes })) w' p' o'
   taken_image s r n en =
       taken (told s r) n en (payload_length s r.from r.multiframes) (slot0_length s r.from r.multiframes)
 
@@ -81,8 +77,8 @@ module _ (c : Line) (fill : ℕ) (w p o : List ℕ) where
       ++ drop (496 * (x.multiframes + y.multiframes)) p
       → o' ≡ (slot0_of s x.from x.multiframes ++ slot0_of t y.from y.multiframes)
       ++ drop (16 * (x.multiframes + y.multiframes)) o
-      → Takes (after (told s x) (told t y)) c fill w p o
-      (record { number = 0; line = y.line; fill = n; multiframes = x.multiframes + y.multiframes }) w' p' o'
+      → Takes (after (told s x) (told t y)) w p o
+      (Ok (record { line = y.line; fill = n; multiframes = x.multiframes + y.multiframes })) w' p' o'
   taken_two s t x y n en =
       taken (after (told s x) (told t y)) n en
       (length-append (payload_of s x.from x.multiframes) (payload_of t y.from y.multiframes)
@@ -142,9 +138,28 @@ next_used k q n u h e w = omega arith
 pub next_holds : (fill : ℕ) → fill ≤ 1024 → (fill ≤ 512 * ((fill + 511) / 512)) × (512 * ((fill + 511) / 512) ≤ 1024)
 next_holds fill h = (omega arith, omega arith)
 
+pub full : (w : List ℕ) (fill : ℕ) → length w ≡ 2048 → fill ≤ 1024 → length (take fill w) ≡ fill
+full w fill l h = filled w fill l (omega arith)
+
+-- the image s is of the window w and the chunk's first n octets, and ends so: x was tracked in it without loss
+module _ (c : Line) (s w chunk : List ℕ) (fill n q : ℕ) (x : Tracked) (f : length w ≡ fill) (e : s ≡ w ++ take n chunk)
+    (ends : fill + n ≡ 512 * ((fill + 511) / 512) + 513) (small : fill ≤ 1024) (long : 2048 ≤ fill + length chunk) where
+  pub next_part : (fill + n ≤ 1537) × (n ≤ length chunk)
+  next_part = let h = next_holds fill small in (omega (arith, h.1, ends), omega (arith, h.1, ends, long))
+
+  module _ (eq : q ≡ start_of c.found % 8) (t : Tracks s q (kept_of c.used) x) (z : x.loss ≡ None) where
+    -- what is let go
+    pub next_gone : (x.used ≡ (fill + 511) / 512 + 1) × (fill ≤ 512 * (x.used - 1)) × (512 * (x.used - 1) ≤ 1024)
+    next_gone =
+        let h = next_holds fill small in
+        let u : x.used ≡ (fill + 511) / 512 + 1 =
+        next_used ((fill + 511) / 512) q (length s) x.used (omega (arith, eq)) (near_length s w chunk fill n f next_part.1 e ∙ ends)
+        (used_all s q (kept_of c.used) x t z ∙ whole_is s q) in
+        (u, omega (arith, u, h.0), omega (arith, u, h.1))
+
 -- where a place stands, and x was tracked in the image s without loss
 module _ (c : Line) (s w chunk : List ℕ) (fill n q : ℕ) (x : Tracked) (f : length w ≡ fill) (h : n ≤ length chunk)
-    (e : s ≡ w ++ take n chunk) (stood : Stood c) (eq : q ≡ start_of c.found % 8) (t : Tracks s q (kept_of c.used) x) (z : x.lost ≡ 0)
+    (e : s ≡ w ++ take n chunk) (stood : Stood c) (eq : q ≡ start_of c.found % 8) (t : Tracks s q (kept_of c.used) x) (z : x.loss ≡ None)
     (o : 1 ≤ x.used) (k : fill ≤ 512 * (x.used - 1)) where
   abbrev chunk_from : List ℕ
   chunk_from = take (length chunk - (512 * (x.used - 1) - fill)) (drop (512 * (x.used - 1) - fill) chunk)

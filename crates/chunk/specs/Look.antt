@@ -1,9 +1,9 @@
 -- For private functions alone. What a look at an image tells in numbers.
-use Rattle.std.specs.Prelude.{if◌then◌else◌, ℕ, ◌+◌, ◌-◌, ◌*◌, ◌≤◌, ◌≡◌, List, eqb, length, drop}
+use Rattle.std.specs.Prelude.{ℕ, ◌+◌, ◌-◌, ◌*◌, ◌≤◌, ◌≡◌, List, length, drop}
 use Rattle.align.specs.declared.Found.{Found}
 use Rattle.align.specs.declared.Found.TheVariants.{At}
 use Rattle.measure.specs.declared.Tracked.{Tracked}
-use Rattle.measure.specs.Reading.{whole, loss_from, lost_at, used_of, payload_of, slot0_of, word_errors, word_bits, compared, disagreeing, far_end}
+use Rattle.measure.specs.Reading.{whole, loss_from, used_of, payload_of, slot0_of, word_errors, word_bits, compared, disagreeing, far_end}
 use Rattle.growth.specs.Growth.{Grown, unread}
 use Rattle.growth.specs.declared.Line.{Line}
 use Rattle.chunk.specs.declared.Seen.{Seen}
@@ -16,14 +16,6 @@ pub record Few (r : Gain) (n : ℕ) : Type 0 where
   pub errored : r.errored ≤ n
   pub farend : r.farend ≤ n
   pub wordbits : r.wordbits ≤ n
-
--- the loss at a frame of the image, or 0, with so many multiframes before the image
-abbrev pub lost_by : ℕ → ℕ → ℕ
-lost_by multiframes lost = if eqb lost 0 then 0 else 16 * multiframes + lost
-
--- the octets of n that are let go, with g multiframes used
-abbrev pub gone_by : ℕ → ℕ → ℕ → ℕ
-gone_by n g lost = if eqb lost 0 then 512 * (g - 1) else n
 
 -- what is known then
 abbrev pub gaining : Line → Gain → ℕ → ℕ → Line
@@ -117,7 +109,7 @@ pub record Stood (c : Line) : Type 0 where
 
 -- x was tracked in the image's multiframes from h on
 pub record Tracks (s : List ℕ) (q h : ℕ) (x : Tracked) : Type 0 where
-  pub its_lost : x.lost ≡ lost_at (loss_from s q h (whole s q))
+  pub its_loss : x.loss ≡ loss_from s q h (whole s q)
   pub its_used : x.used ≡ used_of (loss_from s q h (whole s q)) (whole s q)
   pub at_least : h ≤ x.used
   pub at_most : x.used ≤ whole s q
