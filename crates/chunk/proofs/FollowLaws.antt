@@ -10,7 +10,7 @@ use Rattle.align.specs.Place.{start_of}
 use Rattle.base.specs.Tab.{first}
 use Rattle.measure.specs.Reading.{whole, loss_from, lost_at, used_of, payload_of, slot0_of, word_errors, word_bits, compared, disagreeing, far_end}
 use Rattle.measure.specs.declared.Tracked.{Tracked}
-use Rattle.measure.proofs.FromLaws.{from_late, from_among, used_upto}
+use Rattle.measure.proofs.FromLaws.{from_among, used_upto}
 use Rattle.growth.specs.Growth.{Grown, kept_of, gone_of, later_by, read_on, read_from, after}
 use Rattle.growth.specs.Small.{Small}
 use Rattle.growth.specs.declared.Line.{Line}

@@ -370,8 +370,16 @@ fn take_two(
     if lacks_room(payload.len(), slot0.len(), m + n) {
         return Err(Refused::NoRoom);
     }
-    let first = Part { s: near, q: x.from, n: m };
-    let second = Part { s: far, q: y.from, n };
+    let first = Part {
+        s: near,
+        q: x.from,
+        n: m,
+    };
+    let second = Part {
+        s: far,
+        q: y.from,
+        n,
+    };
     put_payloads(first, second, payload);
     put_slots0(first, second, slot0);
     Ok(Took {
@@ -433,7 +441,8 @@ fn judge_both(near: Part, far: Part) -> usize
     ensures { result ≡ disagreeing near.entry.s.now near.entry.q near.entry.n + disagreeing far.entry.s.now far.entry.q far.entry.n }
 {
     let table = Remainders::new();
-    measure::judge_by(near.s, near.q, near.n, &table) + measure::judge_by(far.s, far.q, far.n, &table)
+    measure::judge_by(near.s, near.q, near.n, &table)
+        + measure::judge_by(far.s, far.q, far.n, &table)
 }
 
 // and how many E bits are 0

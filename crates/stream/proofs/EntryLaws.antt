@@ -1,28 +1,33 @@
 -- The laws of the entries: what a stream that is not over has, and how a chunk is refused or taken.
-use Rattle.std.specs.Prelude.{if◌then◌else◌}
+use Rattle.std.specs.Prelude.{if◌then◌else◌, Result, Ok, Err}
 use Prim.Native.Nat.{ℕ, suc, ◌+◌, ◌*◌, ◌≤◌}
-use mathlib.Core.Path.{◌≡◌, refl, sym, ap, ◌∙◌}
+use mathlib.Core.Path.{◌≡◌, refl, sym, ap, ap₂, ◌∙◌}
 use mathlib.Core.Bool.{Bool, true, false, not, ◌||◌}
-use mathlib.Core.List.{List}
+use mathlib.Core.List.{List, [], ◌∷◌}
+use Rattle.std.specs.List.{list_any}
+use Rattle.std.proofs.Math.Bool.{or_assoc, or-false}
 use mathlib.Mathlib.Data.Bool.Basic.{or-eq-false-eq-eq-false-and-eq-false}
 use native.Mathlib.Omega.{arith}
-use borrow.Author.Tests.{ltb-false}
+use borrow.Author.Tests.{ltb-false, eqb-true, not-false}
 use lib.Dec.{eqb, ltb}
 use lib.ListN.{length}
 use Rattle.base.specs.Answer.{accepted}
+use Rattle.base.specs.Number.{number_in}
+use Rattle.base.specs.declared.Refused.{Refused}
+use Rattle.base.specs.declared.Refused.TheVariants.{NoRoom}
 use Rattle.base.proofs.AnswerLaws.{accepted_so}
-use Rattle.align.specs.Place.{number_of, place_of, start_of}
+use Rattle.align.specs.Place.{number_of, place_of, k_of, start_of}
 use Rattle.align.specs.declared.Found.{Found}
 use Rattle.align.specs.declared.Found.TheVariants.{At, BasicAt, Nothing}
 use Rattle.growth.specs.Small.{Small}
-use Rattle.chunk.specs.Taking.{lacks_room, lacking, taking, over, Takes}
+use Rattle.chunk.specs.Taking.{lacks_room, taking, taking_if, over, Takes}
 use Rattle.chunk.specs.declared.Took.{Took}
 use Rattle.read.specs.Entry as reads
-use Rattle.read.specs.declared.Reading.{Reading}
+use Rattle.read.specs.Answer.{Reading}
 use Rattle.stream.specs.Entry.{is_large, is_far, is_over, octets_came, grown_of, feed_refusal, feed_accept, feed_refuse, feeding, Feeds}
 use Rattle.stream.specs.Entry.{end_refusal, end_accept, end_place, ending}
 use Rattle.stream.specs.declared.Stream.{Stream}
-use Rattle.stream.specs.declared.Ended.{Ended}
+use Rattle.stream.specs.Answer.{Ended, fed_answer}
 
 -- a stream that is not over: its numbers can be added to
 pub record Sound (st : Stream) : Type 0 where
@@ -69,7 +74,40 @@ sound st e =
       };
     }
 
+far_is : (f : Found) → is_large (place_of f) || is_large (k_of f) ≡ is_far f
+unfolding is_far
+far_is (At p k) = refl
+far_is (BasicAt p) = or-false (is_large p)
+far_is Nothing = refl
+
+-- its test, in one row
+pub over_is : (st : Stream) (p k : ℕ) (large : Bool) → p ≡ place_of st.line.found → k ≡ k_of st.line.found
+    → (let c = st.line in
+    large ≡ list_any is_large (p ∷ k ∷ c.before ∷ c.used ∷ c.lost ∷ c.words ∷ c.errored ∷ c.farend ∷ c.wordbits ∷ []))
+    → st.ended || ltb 2048 st.fill || large ≡ is_over st
+unfolding is_over
+over_is st p k large ep ek e =
+    let c = st.line in
+    let far : is_large p || is_large k ≡ is_far c.found = ap₂ (λ p k. is_large p || is_large k) ep ek ∙ far_is c.found in
+    ap (λ l. st.ended || ltb 2048 st.fill || l) e
+    ∙ in_row st.ended (ltb 2048 st.fill) (is_large p) (is_large k) (is_large c.before) (is_large c.used) (is_large c.lost)
+    (is_large c.words) (is_large c.errored) (is_large c.farend) (is_large c.wordbits)
+    ∙ ap (λ f. st.ended || ltb 2048 st.fill || f || is_large c.before || is_large c.used || is_large c.lost
+    || is_large c.words || is_large c.errored || is_large c.farend || is_large c.wordbits) far
+  where
+    in_row : (e f p k b u l w r a i : Bool)
+        → e || f || (p || (k || (b || (u || (l || (w || (r || (a || (i || false)))))))))
+        ≡ e || f || (p || k) || b || u || l || w || r || a || i
+    in_row e f p k b u l w r a i = simp (or_assoc, or-false)
+
 -- A chunk
+
+-- where it is not refused for the stream or its window
+pub open_to : (st : Stream) (w : List ℕ) → is_over st || not (eqb (length w) 2048) ≡ false
+    → (is_over st ≡ false) × (length w ≡ 2048) × Sound st
+open_to st w e =
+    let h = either (is_over st) (not (eqb (length w) 2048)) e in
+    (h.0, eqb-true (length w) 2048 (not-false _ h.1), sound st h.0)
 
 module _ (st : Stream) (w t payload slot0 : List ℕ) where
   abbrev number : ℕ
@@ -104,39 +142,37 @@ module _ (st : Stream) (w t payload slot0 : List ℕ) where
       with_room = rw (a, b)
 
       -- what `take` answers, refused or taken
-      module _ (r : Took) (w' payload' slot0' : List ℕ)
-          (h : Takes (grown_of st w t) st.line st.fill w payload slot0 r w' payload' slot0') where
-        told : (n : ℕ) → r.number ≡ n → (l : Bool) → lacks ≡ l → ◌≡◌ {A = Took} r (if l then lacking st.line st.fill else taking (grown_of st w t))
-        told n e l q = h.its_answer ∙ ap (λ b. if b then lacking st.line st.fill else taking (grown_of st w t)) q
+      module _ (r : Result Took Refused) (w' payload' slot0' : List ℕ)
+          (h : Takes (grown_of st w t) w payload slot0 r w' payload' slot0') where
+        told : (l : Bool) → lacks ≡ l → r ≡ taking_if l (grown_of st w t)
+        told l q = h.its_answer ∙ ap (λ b. taking_if b (grown_of st w t)) q
 
-        pub not_taken : (r.number ≡ 0 → ⊥) → Feeds st w t payload slot0 (feed_refuse st r.number) w' payload' slot0'
-        not_taken z = go lacks refl
+        pub not_taken : (e : Refused) → r ≡ Err e → Feeds st w t payload slot0 (fed_answer st (Err e)) w' payload' slot0'
+        not_taken e z = go lacks refl
           where
-            go : (l : Bool) → lacks ≡ l → Feeds st w t payload slot0 (feed_refuse st r.number) w' payload' slot0'
-            go false q = absurd (z (ap (λ (x : Took). x.number) (told r.number refl false q)))
+            go : (l : Bool) → lacks ≡ l → Feeds st w t payload slot0 (fed_answer st (Err e)) w' payload' slot0'
+            go false q = let k : Ok (taking (grown_of st w t)) ≡ Err e = sym (told false q) ∙ z in cc
             go true q =
-                let n : r.number ≡ 4 = ap (λ (x : Took). x.number) (told r.number refl true q) in
-                let v : w' ≡ w = h.its_window ∙ ap (λ k. accepted k (over (grown_of st w t).window w) w) n in
-                let p : payload' ≡ payload = h.its_payload ∙ ap (λ k. accepted k (over (grown_of st w t).payload payload) payload) n in
-                let o : slot0' ≡ slot0 = h.its_slot0 ∙ ap (λ k. accepted k (over (grown_of st w t).slot0 slot0) slot0) n in
-                rw (n, v, p, o) (refused_as 3 (with_room ∙ ap (λ b. if b then 4 else 0) q))
+                let k : Err NoRoom ≡ Err e = sym (told true q) ∙ z in
+                let room : NoRoom ≡ e = cc in
+                let v : w' ≡ w = h.its_window ∙ ap (λ x. accepted (number_in x) (over (grown_of st w t).window w) w) (told true q) in
+                let p : payload' ≡ payload = h.its_payload ∙ ap (λ x. accepted (number_in x) (over (grown_of st w t).payload payload) payload) (told true q) in
+                let o : slot0' ≡ slot0 = h.its_slot0 ∙ ap (λ x. accepted (number_in x) (over (grown_of st w t).slot0 slot0) slot0) (told true q) in
+                rw (sym room, v, p, o) (refused_as 3 (with_room ∙ ap (λ b. if b then 4 else 0) q))
 
-        pub taken : r.number ≡ 0
-            → Feeds st w t payload slot0
-            (record { stream = record { ended = false; fill = r.fill; line = r.line }; number = 0; multiframes = r.multiframes })
+        pub taken : (x : Took) → r ≡ Ok x
+            → Feeds st w t payload slot0 (fed_answer (record { ended = false; fill = x.fill; line = x.line }) (Ok x.multiframes))
             w' payload' slot0'
         unfolding feeding
-        taken z = go lacks refl
+        taken x z = go lacks refl
           where
             go : (l : Bool) → lacks ≡ l
-                → Feeds st w t payload slot0
-                (record { stream = record { ended = false; fill = r.fill; line = r.line }; number = 0; multiframes = r.multiframes })
+                → Feeds st w t payload slot0 (fed_answer (record { ended = false; fill = x.fill; line = x.line }) (Ok x.multiframes))
                 w' payload' slot0'
-            go true q =
-                let n : r.number ≡ 4 = ap (λ (x : Took). x.number) (told r.number refl true q) in
-                absurd (omega arith)
+            go true q = let k : Err NoRoom ≡ Ok x = sym (told true q) ∙ z in cc
             go false q =
-                let e = told r.number refl false q in
+                let k : Ok x ≡ Ok (taking (grown_of st w t)) = sym z ∙ told false q in
+                let e : x ≡ taking (grown_of st w t) = cc in
                 let n : number ≡ 0 = with_room ∙ ap (λ b. if b then 4 else 0) q in
                 record {
                   its_answer =
@@ -146,9 +182,9 @@ module _ (st : Stream) (w t payload slot0 : List ℕ) where
                         multiframes = x.multiframes;
                       }) e
                       ∙ sym (ap (λ k. accepted k (feed_accept (grown_of st w t)) (feed_refuse st k)) n);
-                  its_window = h.its_window ∙ ap (λ k. accepted k (over (grown_of st w t).window w) w) z;
-                  its_payload = h.its_payload ∙ ap (λ k. accepted k (over (grown_of st w t).payload payload) payload) z;
-                  its_slot0 = h.its_slot0 ∙ ap (λ k. accepted k (over (grown_of st w t).slot0 slot0) slot0) z;
+                  its_window = h.its_window ∙ ap (λ x. accepted (number_in x) (over (grown_of st w t).window w) w) z;
+                  its_payload = h.its_payload ∙ ap (λ x. accepted (number_in x) (over (grown_of st w t).payload payload) payload) z;
+                  its_slot0 = h.its_slot0 ∙ ap (λ x. accepted (number_in x) (over (grown_of st w t).slot0 slot0) slot0) z;
                 }
 
 -- An end

@@ -1,19 +1,23 @@
 -- The laws of calls and of runs: two results of a call are equal, and what any calls leave of a stream is what the joined
 -- line leaves that comes at once.
-use Rattle.std.specs.Prelude.{if◌then◌else◌}
+use Rattle.std.specs.Prelude.{if◌then◌else◌, Result, Ok, Err}
 use Prim.Native.Nat.{ℕ, zero, suc, ◌+◌, ◌-◌, ◌*◌, ◌/◌, ◌%◌, ◌≤◌, ◌<◌}
 use mathlib.Core.Path.{◌≡◌, refl, sym, ap, ap₂, subst, ◌∙◌}
-use mathlib.Core.Bool.{Bool, true, false, true≢false}
+use mathlib.Core.Bool.{Bool, true, false, not, ◌||◌, true≢false}
 use mathlib.Core.List.{List, [], ◌∷◌, ◌++◌}
 use mathlib.Core.Logic.{◌≢◌, ⊎_elim}
 use Rattle.std.specs.Prelude.{Option, None, Some}
 use native.Mathlib.Nat.{zero-add}
 use native.Mathlib.Omega.{arith}
 use borrow.Author.Tests.{le-ltb, ltb-false, ne_eqb}
-use lib.Dec.{eqb, lit≤}
+use lib.Dec.{eqb, ltb, lit≤}
 use lib.ListN.{length, take, drop, length-append, length-drop}
 use lib.Seq.{take-append_seam, drop-drop}
 use Rattle.base.specs.Answer.{accepted, first_number}
+use Rattle.base.specs.Number.{refusal_number, refusal_place}
+use Rattle.base.specs.declared.Refused.{Refused}
+use Rattle.base.specs.declared.Refused.TheVariants.{NoSignals}
+use Rattle.base.proofs.NumberLaws.{same_refusal, refusal_above_0}
 use Rattle.base.specs.Tab.{first}
 use Rattle.base.proofs.AnswerLaws.{accepted_so, accepted_not, accepted_single, first_tells}
 use Rattle.align.specs.Place.{first_standing, first_basic, found_in, number_of, place_of, start_of}
@@ -23,6 +27,8 @@ use Rattle.align.proofs.Laws.{found_at, first_within, finds_basic}
 use Rattle.measure.specs.Reading.{whole, loss, loss_from, lost_at, cause_of, used_of, compared, payload_of, slot0_of}
 use Rattle.measure.proofs.LossLaws.{loss_is}
 use Rattle.measure.proofs.FromLaws.{from_late, used_upto}
+use Rattle.read.specs.declared.Reading as code
+use Rattle.read.proofs.AnswerLaws.{same_answer}
 use Rattle.read.specs.Entry as reads
 use Rattle.read.specs.Entry.{place_in, start_in, used_in, loss_in}
 use Rattle.growth.specs.Growth.{Grown, unread, nothing, kept_of, read_on, read_from, searched, grown_by, grown, after}
@@ -31,13 +37,12 @@ use Rattle.growth.specs.declared.Line.{Line}
 use Rattle.growth.proofs.SearchCut.{grown_cut}
 use Rattle.growth.proofs.Bounds.{grown_octets, grown_short, grown_small, start_within}
 use Rattle.growth.proofs.AtOnce.{AtOnce, at_once, found_at_once, none_left}
-use Rattle.chunk.specs.Taking.{over}
+use Rattle.chunk.specs.Taking.{lacks_room, over}
 use Rattle.stream.specs.Entry.{is_far, is_over, octets_came, grown_of, feed_refusals, feed_refusal, feed_accept, feed_refuse}
 use Rattle.stream.specs.Entry.{feeding, Feeds, end_refusal, cause_by, end_accept, end_place, ending}
 use Rattle.stream.specs.Runs.{Call, chunk, end, Run, begun, called, run, line_refusals, line_reading, line_payload, line_slot0}
 use Rattle.stream.specs.declared.Stream.{Stream}
-use Rattle.stream.specs.declared.Fed.{Fed}
-use Rattle.stream.specs.declared.Ended.{Ended}
+use Rattle.stream.specs.Answer.{Fed, Ended, fed_answer, end_answer}
 use Rattle.stream.proofs.EntryLaws.{refused_as, not_ended, ended_so}
 
 -- A call
@@ -72,6 +77,57 @@ fed_single h h' =
       accepted_single _ _ _ _ _ _ n h.its_payload h'.its_payload,
       accepted_single _ _ _ _ _ _ n h.its_slot0 h'.its_slot0,
     )
+
+-- two results with which the stream is fed are equal, and so is the stream then
+
+no_place : (e : Refused) → (refusal_number e ≡ 15 → ⊥) → refusal_place e ≡ 0
+no_place (NoSignals p) h = absurd (h refl)
+no_place _ h = refl
+
+first_of : (a b c : Bool) → ◌≡◌ {A = ℕ} (if a then 21 else if b then 17 else if c then 4 else 0) 15 → ⊥
+first_of true b c k = omega (arith, k)
+first_of false true c k = omega (arith, k)
+first_of false false true k = omega (arith, k)
+first_of false false false k = omega (arith, k)
+
+fed_no_place : {st : Stream} {w t payload slot0 : List ℕ} (st' : Stream) (e : Refused) {w' payload' slot0' : List ℕ}
+    → Feeds st w t payload slot0 (fed_answer st' (Err e)) w' payload' slot0' → refusal_place e ≡ 0
+unfolding feed_refusal
+fed_no_place {st} {w} {t} {payload} {slot0} st' e h =
+    no_place e
+    (λ k. first_of (is_over st || not (eqb (length w) 2048)) (ltb 16777216 (octets_came st + length t))
+    (lacks_room (length payload) (length slot0) (grown_of st w t).multiframes) (sym (fed_number h) ∙ k))
+
+same_fed : (st st' : Stream) (r r' : Result ℕ Refused) → ((e : Refused) → r ≡ Err e → refusal_place e ≡ 0)
+    → ((e : Refused) → r' ≡ Err e → refusal_place e ≡ 0) → fed_answer st r ≡ fed_answer st' r' → r ≡ r'
+same_fed st st' (Ok n) (Ok m) p q e = ap Ok (ap (λ (x : Fed). x.multiframes) e)
+same_fed st st' (Ok n) (Err f) p q e = absurd (refusal_above_0 f (sym (ap (λ (x : Fed). x.number) e)))
+same_fed st st' (Err f) (Ok n) p q e = absurd (refusal_above_0 f (ap (λ (x : Fed). x.number) e))
+same_fed st st' (Err f) (Err g) p q e =
+    ap Err (same_refusal f g (ap (λ (x : Fed). x.number) e) (p f refl ∙ sym (q g refl)))
+
+pub feed_single : {st : Stream} {w t payload slot0 : List ℕ} (st' st'' : Stream) (r r' : Result ℕ Refused) {x x' p p' o o' : List ℕ}
+    → Feeds st w t payload slot0 (fed_answer st' r) x p o → Feeds st w t payload slot0 (fed_answer st'' r') x' p' o'
+    → (st' ≡ st'') × (r ≡ r') × (x ≡ x') × (p ≡ p') × (o ≡ o')
+feed_single st' st'' r r' h h' =
+    let s = fed_single h h' in (
+      stream_of st' r ∙ ap (λ (x : Fed). x.stream) s.0 ∙ sym (stream_of st'' r'),
+      same_fed st' st'' r r' (λ e z. fed_no_place st' e (rw z at h)) (λ e z. fed_no_place st'' e (rw z at h')) s.0,
+      s.1,
+      s.2,
+      s.3,
+    )
+  where
+    stream_of : (st : Stream) (r : Result ℕ Refused) → st ≡ (fed_answer st r).stream
+    stream_of st (Ok n) = refl
+    stream_of st (Err e) = refl
+
+-- and two with which it is ended
+pub end_single : (st st' st'' : Stream) (r r' : Result code.Reading Refused) → end_answer st' r ≡ ending st → end_answer st'' r' ≡ ending st
+    → (st' ≡ st'') × (r ≡ r')
+end_single st st' st'' r r' h h' =
+    let e = h ∙ sym h' in
+    (ap (λ (x : Ended). x.stream) e, same_answer r r' (ap (λ (x : Ended). x.reading) e))
 
 -- a refusal leaves all as it was
 pub fed_refused : {st : Stream} {w t payload slot0 : List ℕ} {r : Fed} {w' payload' slot0' : List ℕ} (n : ℕ)

@@ -7,12 +7,12 @@ use Rattle.align.specs.declared.Found.{Found}
 use Rattle.align.specs.declared.Found.TheVariants.{At, BasicAt, Nothing}
 use Rattle.measure.specs.Reading.{compared}
 use Rattle.read.specs.Entry as reads
-use Rattle.read.specs.declared.Reading.{Reading}
+use Rattle.read.specs.Answer.{Reading}
 use Rattle.growth.specs.Growth.{Grown, nothing, fed}
 use Rattle.chunk.specs.Taking.{lacks_room, over}
 use Rattle.stream.specs.declared.Stream.{Stream}
-use Rattle.stream.specs.declared.Fed.{Fed}
-use Rattle.stream.specs.declared.Ended.{Ended}
+use Rattle.stream.specs.Answer.{Fed}
+use Rattle.stream.specs.Answer.{Ended}
 
 -- nothing has come
 abbrev pub starting : Stream

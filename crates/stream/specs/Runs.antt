@@ -5,7 +5,7 @@ use Rattle.align.specs.Place.{found_in, number_of}
 use Rattle.measure.specs.Reading.{payload_of, slot0_of}
 use Rattle.read.specs.Entry.{start_in, used_in}
 use Rattle.read.specs.Entry as reads
-use Rattle.read.specs.declared.Reading.{Reading}
+use Rattle.read.specs.Answer.{Reading}
 use Rattle.chunk.specs.Taking.{over}
 use Rattle.stream.specs.Entry.{starting, grown_of, feed_refusal, feed_accept, end_refusal, ending}
 use Rattle.stream.specs.declared.Stream.{Stream}

@@ -2,12 +2,15 @@
 // is lent.
 #![tactic(auto)]
 
-ghost use Rattle.std.specs.Prelude.{◌≡◌};
-ghost use Rattle.align.specs.Place.{number_of, place_of};
-ghost use Rattle.read.specs.Entry as reads;
-ghost use Rattle.stream.specs.Entry.{starting, is_far, is_over, feed_refuse, Feeds, cause_by, ending};
+ghost use Rattle.std.specs.Prelude.{◌≡◌, false};
+ghost use Rattle.std.specs.List.{list_any};
+ghost use Rattle.measure.specs.Reading.{lost_at, cause_of};
+ghost use Rattle.read.specs.Answer.{answered};
+ghost use Rattle.stream.specs.Answer.{fed_answer, end_answer};
+ghost use Rattle.stream.specs.Entry.{starting, is_large, is_over, octets_came, Feeds, cause_by, end_accept, ending};
 
 use align::Found;
+use base::Refused;
 use growth::Line;
 use read::Reading;
 
@@ -19,202 +22,121 @@ pub struct Stream {
     pub line: Line,
 }
 
-// What a chunk is answered: the number is 0, or the refusal's with the stream as it was; and how many multiframes left.
-#[derive(Clone, Copy)]
-pub struct Fed {
-    pub stream: Stream,
-    pub number: u64,
-    pub multiframes: usize,
+impl Stream {
+    // A stream to which nothing has come.
+    pub fn start() -> Stream
+        ensures { result ≡ starting }
+    {
+        Stream {
+            ended: false,
+            fill: 0,
+            line: growth::nothing(),
+        }
+    }
+
+    // it has ended, or comes from no calls
+    fn is_over(&self) -> bool
+        ensures { result ≡ is_over self.now }
+    {
+        let line = self.line;
+        let numbers = [
+            line.found.place(),
+            line.found.k(),
+            line.before,
+            line.used,
+            line.lost,
+            line.words,
+            line.errored,
+            line.farend,
+            line.wordbits,
+        ];
+        self.ended | (2048 < self.fill) | any_large(&numbers)
+    }
+
+    // the octets that came
+    fn came(&self) -> usize
+        requires { is_over self.now ≡ false }
+        ensures { result ≡ octets_came self.now }
+    {
+        self.line.before + self.fill
+    }
+
+    // what the line tells, of which a place stands
+    fn reading(&self) -> Reading
+        requires { is_over self.now ≡ false }
+        ensures { answered (Ok result) ≡ end_accept self.now }
+    {
+        let line = self.line;
+        let start = line.found.start();
+        Reading {
+            place: line.found.place(),
+            start,
+            whole: chunk::whole(self.came(), start),
+            used: line.used,
+            loss: loss_of(line.lost),
+            words: line.words,
+            compared: measure::compared(line.used),
+            errored: line.errored,
+            farend: line.farend,
+            wordbits: line.wordbits,
+        }
+    }
+
+    // A chunk comes: what leaves with it goes to the front of the two outputs, and that many multiframes are answered.
+    pub fn feed(
+        &mut self,
+        window: &mut [u8],
+        chunk: &[u8],
+        payload: &mut [u8],
+        slot0: &mut [u8],
+    ) -> Result<usize, Refused>
+        ensures { Feeds self.old window.old chunk.now payload.old slot0.old
+            (fed_answer self.new result) window.new payload.new slot0.new }
+    {
+        if self.is_over() | (window.len() != 2048) {
+            return Err(Refused::Ended);
+        }
+        if 16777216 < self.came() + chunk.len() {
+            return Err(Refused::Endless);
+        }
+        let took = chunk::take(self.line, self.fill, chunk, window, payload, slot0)?;
+        self.fill = took.fill;
+        self.line = took.line;
+        Ok(took.multiframes)
+    }
+
+    // The line ends: what it tells, or why it tells nothing yet.
+    pub fn end(&mut self) -> Result<Reading, Refused>
+        ensures { end_answer self.new result ≡ ending self.old }
+    {
+        if self.is_over() {
+            return Err(Refused::Ended);
+        }
+        if self.came() < 2048 {
+            return Err(Refused::TooShort);
+        }
+        match self.line.found {
+            Found::At { place: _, k: _ } => {
+                let reading = self.reading();
+                self.ended = true;
+                Ok(reading)
+            }
+            Found::BasicAt { place } => Err(Refused::NoSignals { place }),
+            Found::Nothing => Err(Refused::NoFrames),
+        }
+    }
 }
 
-// What an end is answered: the stream then, and the reading of the joined line.
-#[derive(Clone, Copy)]
-pub struct Ended {
-    pub stream: Stream,
-    pub reading: Reading,
-}
-
-// the place that was found, and its k
-fn is_far(found: Found) -> bool
-    ensures { result ≡ is_far found }
+// one of them is over the bits of the longest line
+fn any_large(numbers: &[usize]) -> bool
+    ensures { result ≡ list_any is_large numbers.now }
 {
-    match found {
-        Found::At { place, k } => (134217728 < place) | (134217728 < k),
-        Found::BasicAt { place } => 134217728 < place,
-        Found::Nothing => false,
-    }
+    numbers.iter().any(|n| 134217728 < *n)
 }
 
-// it has ended, or comes from no calls
-fn is_over(stream: Stream) -> bool
-    ensures { result ≡ is_over stream }
+// the loss at a frame, which is never 0: by 0 there is none
+fn loss_of(lost: usize) -> Option<usize>
+    ensures { (lost_at result ≡ lost) × (cause_of result ≡ cause_by lost) }
 {
-    let line = stream.line;
-    let found = line.found;
-    stream.ended
-        | (2048 < stream.fill)
-        | is_far(found)
-        | (134217728 < line.before)
-        | (134217728 < line.used)
-        | (134217728 < line.lost)
-        | (134217728 < line.words)
-        | (134217728 < line.errored)
-        | (134217728 < line.farend)
-        | (134217728 < line.wordbits)
-}
-
-// a chunk is refused
-fn refused(stream: Stream, number: u64) -> Fed
-    ensures { result ≡ feed_refuse stream number }
-{
-    Fed {
-        stream: stream,
-        number: number,
-        multiframes: 0,
-    }
-}
-
-// an end is refused
-fn unended(stream: Stream, number: u64, place: usize) -> Ended
-    ensures { result ≡ record { stream = stream; reading = reads.refuse number place } }
-{
-    let reading = Reading {
-        number: number,
-        place: place,
-        start: 0,
-        whole: 0,
-        used: 0,
-        lost: 0,
-        words: 0,
-        compared: 0,
-        errored: 0,
-        farend: 0,
-        wordbits: 0,
-        cause: 0,
-    };
-    Ended {
-        stream: stream,
-        reading: reading,
-    }
-}
-
-// A stream to which nothing has come.
-pub fn start() -> Stream
-    ensures { result ≡ starting }
-{
-    Stream {
-        ended: false,
-        fill: 0,
-        line: growth::nothing(),
-    }
-}
-
-// A chunk comes: what leaves with it goes to the front of the two outputs.
-pub fn feed(
-    stream: Stream,
-    window: &mut [u8],
-    chunk: &[u8],
-    payload: &mut [u8],
-    slot0: &mut [u8],
-) -> Fed
-    ensures { Feeds stream window.old chunk.now payload.old slot0.old
-        result window.new payload.new slot0.new }
-{
-    if is_over(stream) | (window.len() != 2048) {
-        return refused(stream, 21);
-    }
-    let line = stream.line;
-    if 16777216 < line.before + stream.fill + chunk.len() {
-        return refused(stream, 17);
-    }
-    let took = chunk::take(line, stream.fill, chunk, window, payload, slot0);
-    if took.number != 0 {
-        return refused(stream, took.number);
-    }
-    let grown = took.line;
-    let then = Stream {
-        ended: false,
-        fill: took.fill,
-        line: grown,
-    };
-    Fed {
-        stream: then,
-        number: 0,
-        multiframes: took.multiframes,
-    }
-}
-
-// the cause, by the frame of loss or 0
-fn cause_by(lost: usize) -> u64
-    ensures { result ≡ cause_by lost }
-{
-    if lost == 0 {
-        return 0;
-    }
-    (1 + lost % 2) as u64
-}
-
-// the number that goes with what was found, and the place
-fn number_of(found: Found) -> u64
-    ensures { result ≡ number_of found }
-{
-    match found {
-        Found::At { place, k } => 0,
-        Found::BasicAt { place } => 15,
-        Found::Nothing => 3,
-    }
-}
-
-fn place_of(found: Found) -> usize
-    ensures { result ≡ place_of found }
-{
-    match found {
-        Found::At { place, k } => place,
-        Found::BasicAt { place } => place,
-        Found::Nothing => 0,
-    }
-}
-
-// The line ends: what it tells, or why it tells nothing yet.
-pub fn end(stream: Stream) -> Ended
-    ensures { result ≡ ending stream }
-{
-    if is_over(stream) {
-        return unended(stream, 21, 0);
-    }
-    let line = stream.line;
-    let came = line.before + stream.fill;
-    if came < 2048 {
-        return unended(stream, 1, 0);
-    }
-    let found = line.found;
-    let number = number_of(found);
-    let place = place_of(found);
-    if number != 0 {
-        return unended(stream, number, place);
-    }
-    let start = chunk::start_of(found);
-    let reading = Reading {
-        number: 0,
-        place: place,
-        start: start,
-        whole: chunk::whole(came, start),
-        used: line.used,
-        lost: line.lost,
-        words: line.words,
-        compared: measure::compared(line.used),
-        errored: line.errored,
-        farend: line.farend,
-        wordbits: line.wordbits,
-        cause: cause_by(line.lost),
-    };
-    let then = Stream {
-        ended: true,
-        fill: stream.fill,
-        line: line,
-    };
-    Ended {
-        stream: then,
-        reading: reading,
-    }
+    if lost == 0 { None } else { Some(lost) }
 }

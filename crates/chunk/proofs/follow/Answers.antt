@@ -1,6 +1,5 @@
 use Rattle.std.proofs.Common.{◌≤◌, ◌%◌, ap, arith}
 use Rattle.measure.specs.Reading.{whole}
-use Rattle.chunk.specs.Look.{Tracks}
 use Rattle.chunk.proofs.FollowLaws.{whole_is, tracks, tracked_room, follows, stays}
 use Rattle.chunk.proofs.follow.Goals as goal
 

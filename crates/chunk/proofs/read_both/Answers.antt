@@ -1,4 +1,4 @@
-use Rattle.std.proofs.Common.{◌≡◌, ℕ, ◌+◌, ◌-◌, ◌*◌, ◌^◌, ◌≤◌, List, length, ap, ap₂, ◌∙◌, arith}
+use Rattle.std.proofs.Common.{◌≡◌, ℕ, ◌+◌, ◌-◌, ◌*◌, ◌^◌, List, length, ap, ap₂, ◌∙◌, arith}
 use Rattle.measure.specs.Reading.{compared, disagreeing}
 use Rattle.growth.proofs.Counts.{disagreeing_few, far_end_few}
 use Rattle.chunk.proofs.FollowLaws.{small_more, gone_within, tracked_few, tracked_room, both_line}
@@ -87,8 +87,7 @@ pub gaining-requires : goal.gaining-requires
 gaining-requires c =
     let a = c.args in
     let x = tracked_few a.near.now a.q a.h a.x c.requires.5 in
-    let y = tracked_few a.far.now a.q 1 a.y c.requires.8 in
-    (
+    let y = tracked_few a.far.now a.q 1 a.y c.requires.8 in (
       small_more a.c (2 ^ 39) (2 ^ 50) (omega arith) c.requires.0,
       omega (arith, x, gone_within (length a.far.now) a.y.used a.gone a.y.loss y.0 c.requires.9),
       record {

@@ -1,4 +1,4 @@
-use Rattle.std.proofs.Common.{sym, ap, ◌∙◌, arith}
+use Rattle.std.proofs.Common.{sym, ap, arith}
 use Rattle.align.proofs.Laws.{finds_basic}
 use Rattle.growth.specs.Growth.{searched}
 use Rattle.chunk.proofs.FollowLaws.{looks_as}

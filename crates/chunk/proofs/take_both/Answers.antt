@@ -1,8 +1,7 @@
-use Rattle.std.proofs.Common.{◌≡◌, ℕ, ◌+◌, ◌-◌, ◌*◌, ◌≤◌, List, length, refl, sym, subst, ◌∙◌, arith}
-use Rattle.growth.specs.Growth.{kept_of, gone_of, later_by, read_from, after}
+use Rattle.std.proofs.Common.{◌+◌, ◌-◌, ◌*◌, ◌≤◌, length, refl, sym, subst, arith}
+use Rattle.growth.specs.Growth.{kept_of, gone_of, later_by}
 use Rattle.measure.specs.Reading.{lost_at}
-use Rattle.chunk.specs.Look.{told, Tracks}
-use Rattle.chunk.specs.declared.Seen.{Seen}
+use Rattle.chunk.specs.Look.{Tracks}
 use Rattle.chunk.proofs.FollowLaws.{whole_is, tracks, tracked_few, tracked_room, near_seen, told_both}
 use Rattle.chunk.proofs.TakeLaws.{has_room, takes_as, not_taken, taken_two}
 use Rattle.chunk.proofs.take_both.Goals as goal

@@ -1,4 +1,4 @@
-use Rattle.std.proofs.Common.{take, arith}
+use Rattle.std.proofs.Common.{take}
 use Rattle.chunk.proofs.BufferLaws.{filled}
 use Rattle.chunk.proofs.TakeLaws.{takes_as, cut_there}
 use Rattle.chunk.proofs.take_far.Goals as goal

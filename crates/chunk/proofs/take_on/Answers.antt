@@ -1,4 +1,4 @@
-use Rattle.std.proofs.Common.{ℕ, ◌+◌, ◌-◌, ◌*◌, ◌/◌, ◌%◌, take, sym, ap, subst, ◌∙◌, arith}
+use Rattle.std.proofs.Common.{◌+◌, ◌-◌, ◌*◌, ◌/◌, ◌%◌, take, sym, ap, subst, ◌∙◌, arith}
 use Rattle.chunk.specs.Look.{Tracks}
 use Rattle.chunk.proofs.BufferLaws.{image_length}
 use Rattle.chunk.proofs.FollowLaws.{tracks}

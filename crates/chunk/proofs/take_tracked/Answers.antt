@@ -99,4 +99,3 @@ returns-in-None c =
     takes_as
     (cut_both a.c a.near.now w a.chunk.now a.fill a.n a.q a.x f h.1 r.8 r.1 r.6 r.9 c.in-None.is (omega (arith, g.0)) g.1)
     c.take_both.ensures
-
