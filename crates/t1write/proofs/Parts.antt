@@ -10,7 +10,7 @@ use lib.ListN.{length, get_or, take, drop, take-append-drop, get_or-eq_default}
 use lib.Seq.{get_or-take, get_or-drop, drop-drop}
 use Rattle.base.specs.Tab.{tab}
 use Rattle.base.proofs.PartLaws.{part_length, take_put_more}
-use Rattle.base.proofs.TabLaws.{tab_agree, tab_fill}
+use Rattle.base.proofs.TabLaws.{tab_agree, tab_fill, tab_of}
 use Rattle.line.specs.Bit.{bit_at}
 use Rattle.line.specs.Spelt.{spelt, digit, packed}
 use Rattle.line.proofs.SpeltLaws.{spelt_agree}
@@ -19,12 +19,12 @@ use Rattle.t1.specs.Superframe.{framing_at, super_check}
 use Rattle.t1.specs.Raw.{framing_of}
 use Rattle.t1.proofs.Laws.{data_part}
 use Rattle.t1write.specs.Writing.{framing_bit, carries, line_bit, written, signalled_octet, with_signals}
-use Rattle.t1write.specs.Inputs.{OfBits, frames_bit}
+use Rattle.t1write.specs.Inputs.{OfBits, superframe_of, frames_bit}
 use Rattle.t1write.proofs.Laws.{framing_lt, line_framing, line_data, length_written, framing_line, check_line}
 use Rattle.t1write.proofs.Framing.{eight_framing}
 use Rattle.t1write.proofs.Words.{frames_framing, frames_other}
 use Rattle.t1write.proofs.Joins.{Later, later_carries, later_written}
-use Rattle.t1write.proofs.Signals.{signals_at}
+use Rattle.t1write.proofs.Signals.{length_signals, signals_at}
 
 -- the octets of s from a to e, as a slice is lent
 abbrev pub part : ℕ → ℕ → List ℕ → List ℕ
@@ -105,27 +105,24 @@ module _ (o l : List ℕ) (k : ℕ) where
     pub superframe_check : super_check (written o l k 1) 0 ≡ carries o k 1
     superframe_check = check_line o l k 1 bits 0 (lit< tt)
 
--- superframe m of the payload p and the data link l
-abbrev pub payload_part : ℕ → List ℕ → List ℕ
-payload_part m p = part (576 * m) (576 * m + 576) p
-
+-- superframe m of the payload p, and its parts of the data link l and of signalling g
 abbrev pub link_part : ℕ → List ℕ → List ℕ
 link_part m l = part (12 * m) (12 * m + 12) l
 
-pub part_later : (p l : List ℕ) (m : ℕ) → Later p l (payload_part m p) (link_part m l) m 1
+abbrev pub signals_part : ℕ → List ℕ → List ℕ
+signals_part m g = part (96 * m) (96 * m + 96) g
+
+pub part_later : (p l : List ℕ) (m : ℕ) → Later p l (superframe_of p m) (link_part m l) m 1
 part_later p l m =
     record {
       octets = λ i h. part_at p (576 * m) (576 * m + 576) i (omega arith);
       links = λ i h. part_at l (12 * m) (12 * m + 12) i (omega arith);
     }
 
--- and of its signalling g: it is replaced in the superframe as in the whole
-abbrev pub signals_part : ℕ → List ℕ → List ℕ
-signals_part m g = part (96 * m) (96 * m + 96) g
-
-module _ (p g : List ℕ) (m : ℕ) where
+-- signalling is replaced in the superframe as in the whole
+module _ (p g : List ℕ) (m : ℕ) (fits : 576 * m + 576 ≤ length p) where
   signalled_later : (i : ℕ) → i < 576
-      → signalled_octet (payload_part m p) (signals_part m g) i ≡ signalled_octet p g (576 * m + i)
+      → signalled_octet (superframe_of p m) (signals_part m g) i ≡ signalled_octet p g (576 * m + i)
   signalled_later i h =
       let f : (576 * m + i) / 24 ≡ 24 * m + i / 24 = omega arith in
       let q : (576 * m + i) / 144 ≡ 4 * m + i / 144 = omega arith in
@@ -149,15 +146,16 @@ module _ (p g : List ℕ) (m : ℕ) where
       within : (i : ℕ) → i < 576 → 96 * m + (24 * (i / 144) + i % 24) < 96 * m + 96
       within i h = omega arith
 
-  pub signals_later : (l : List ℕ) → 576 * m + 576 ≤ length p
-      → Later (with_signals p g) l (with_signals (payload_part m p) (signals_part m g)) (link_part m l) m 1
-  signals_later l h =
-      record {
-        octets = λ i k.
-            signals_at (payload_part m p) (signals_part m g) i (omega (arith, part_length (576 * m) (576 * m + 576) p h))
-            ∙ signalled_later i (omega arith) ∙ sym (signals_at p g (576 * m + i) (omega arith));
-        links = (part_later p l m).links;
-      }
+  pub signals_superframe : with_signals (superframe_of p m) (signals_part m g) ≡ superframe_of (with_signals p g) m
+  unfolding with_signals
+  signals_superframe =
+      let n = part_length (576 * m) (576 * m + 576) p fits in
+      let k = part_length (576 * m) (576 * m + 576) (with_signals p g) (omega (arith, length_signals p g)) in
+      tab_of (length (superframe_of p m)) (signalled_octet (superframe_of p m) (signals_part m g)) (superframe_of (with_signals p g) m)
+      (k ∙ sym n)
+      (λ i h.
+      signalled_later i (omega arith) ∙ sym (signals_at p g (576 * m + i) (omega arith))
+      ∙ sym (part_at (with_signals p g) (576 * m) (576 * m + 576) i (omega arith)))
 
 -- one superframe more, of output xs₀
 module _ {p l o l' : List ℕ} {m : ℕ} (h : Later p l o l' m 1) (c : ℕ) where

@@ -1,5 +1,5 @@
 -- For private functions alone. What is written of an accepted call.
-use Rattle.std.specs.Prelude.{if◌then◌else◌, ℕ, ◌*◌, ◌/◌, ◌%◌, ◌<◌, List, ◌≡◌, eqb, length, get_or}
+use Rattle.std.specs.Prelude.{if◌then◌else◌, ℕ, ◌*◌, ◌/◌, ◌%◌, ◌<◌, List, ◌≡◌, ◌+◌, eqb, length, get_or, slice_range}
 use Rattle.line.specs.Spelt.{digit}
 use Rattle.t1.specs.Payload.{data_bit}
 
@@ -13,6 +13,10 @@ pub record Inputs (p l : List ℕ) (c n : ℕ) : Type 0 where
   pub payload : length p ≡ 576 * n
   pub link : OfBits l (12 * n)
   pub six_bits : c < 64
+
+-- the octets of superframe m of the payload p
+abbrev pub superframe_of : List ℕ → ℕ → List ℕ
+superframe_of p m = slice_range p (576 * m) (576 * m + 576)
 
 -- bit i of eight frames with the octets o and, as a number, the framing bits b
 unfoldable pub frames_bit : List ℕ → ℕ → ℕ → ℕ

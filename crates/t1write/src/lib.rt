@@ -1,14 +1,15 @@
 // Writing superframes of a T1 line.
 #![tactic(auto)]
 
-ghost use Rattle.std.specs.Prelude.{◌≡◌, ◌++◌, ◌+◌, ◌-◌, ◌*◌, ◌/◌, ◌%◌, ◌^◌, ◌<◌, ◌≤◌, length, drop, IfErr};
+ghost use Rattle.std.specs.Prelude.{◌≡◌, ℕ, List, ◌++◌, ◌+◌, ◌-◌, ◌*◌, ◌/◌, ◌%◌, ◌^◌, ◌<◌, ◌≤◌, length, drop, IfErr};
 ghost use Rattle.base.specs.Answer.{first_number};
 ghost use Rattle.base.specs.Number.{number_in, refusal_place};
 ghost use Rattle.line.specs.Spelt.{packed, spelt};
+ghost use Rattle.t1.specs.Payload.{superframes};
 ghost use Rattle.t1write.specs.Writing.{framing_bit, carries, written, with_signals};
 ghost use Rattle.t1write.specs.Answer.{answered};
 ghost use Rattle.t1write.specs.Entry.{are_bits, faults, Wrote, WroteSignalled};
-ghost use Rattle.t1write.specs.Inputs.{OfBits, Inputs, frames_bit};
+ghost use Rattle.t1write.specs.Inputs.{OfBits, Inputs, superframe_of, frames_bit};
 
 use base::Refused;
 
@@ -80,28 +81,6 @@ fn write_superframe(octets: &[u8], link: &[u8], k: u64, out: &mut [u8]) -> u64
     t1::check_by(t1::raw::of(out), framing)
 }
 
-// n superframes, each to its part of the output, and the check of the last
-fn write_all(payload: &[u8], link: &[u8], check: u64, n: usize, out: &mut [u8]) -> u64
-    requires { Inputs payload.now link.now check n × (579 * n ≤ length out.old) }
-    ensures out_after { out.new
-        ≡ written payload.now link.now check n ++ drop (579 * n) out.old }
-    ensures value { result ≡ carries payload.now check n }
-{
-    let mut k = check;
-    for m in 0..n {
-        let p = 576 * m;
-        let l = 12 * m;
-        let a = 579 * m;
-        k = write_superframe(
-            &payload[p..p + 576],
-            &link[l..l + 12],
-            k,
-            &mut out[a..a + 579],
-        );
-    }
-    k
-}
-
 // the octets of a superframe with their signalling, by value
 fn replaced(payload: &[u8], signalling: &[u8]) -> [u8; 576]
     requires { (length payload.now ≡ 576) × OfBits signalling.now 96 }
@@ -120,31 +99,63 @@ fn replaced(payload: &[u8], signalling: &[u8]) -> [u8; 576]
     octets
 }
 
-// n superframes with signalling
-fn write_replaced(
-    payload: &[u8],
-    link: &[u8],
-    check: u64,
-    signalling: &[u8],
-    n: usize,
-    out: &mut [u8],
-) -> u64
-    requires { Inputs payload.now link.now check n
-        × OfBits signalling.now (96 * n)
-        × (579 * n ≤ length out.old) }
+// what is sent, written superframe by superframe, so that of octets with signalling those of one alone need be held
+trait Sent {
+    ghost octets: { Self → List ℕ };
+
+    // superframe m, which carries the check k, and its check
+    fn write_at(&self, m: usize, link: &[u8], k: u64, out: &mut [u8]) -> u64
+        requires { (576 * m + 576 ≤ length (octets self.now)) × OfBits link.now 12 × (length out.old ≡ 579) }
+        ensures out_after { out.new ≡ written (superframe_of (octets self.now) m) link.now k 1 }
+        ensures value { result ≡ carries (superframe_of (octets self.now) m) k 1 };
+}
+
+// a payload as it is
+#[derive(Clone, Copy)]
+struct Plain<'a> {
+    payload: &'a [u8],
+}
+
+impl<'a> Sent for Plain<'a> {
+    ghost octets = { λ s. s.payload.now };
+
+    fn write_at(&self, m: usize, link: &[u8], k: u64, out: &mut [u8]) -> u64 {
+        let p = 576 * m;
+        write_superframe(&self.payload[p..p + 576], link, k, out)
+    }
+}
+
+// a payload with signalling
+#[derive(Clone, Copy)]
+struct Signalled<'a> {
+    payload: &'a [u8],
+    signalling: &'a [u8],
+    ghost bits: { OfBits signalling.now (96 * superframes payload.now) },
+}
+
+impl<'a> Sent for Signalled<'a> {
+    ghost octets = { λ s. with_signals s.payload.now s.signalling.now };
+
+    fn write_at(&self, m: usize, link: &[u8], k: u64, out: &mut [u8]) -> u64 {
+        let p = 576 * m;
+        let g = 96 * m;
+        let octets = replaced(&self.payload[p..p + 576], &self.signalling[g..g + 96]);
+        write_superframe(&octets, link, k, out)
+    }
+}
+
+// n superframes, each to its part of the output, and the check of the last
+fn write_all<S: Sent>(sent: &S, link: &[u8], check: u64, n: usize, out: &mut [u8]) -> u64
+    requires { Inputs (S.octets sent.now) link.now check n × (579 * n ≤ length out.old) }
     ensures out_after { out.new
-        ≡ written (with_signals payload.now signalling.now) link.now check n
-        ++ drop (579 * n) out.old }
-    ensures value { result ≡ carries (with_signals payload.now signalling.now) check n }
+        ≡ written (S.octets sent.now) link.now check n ++ drop (579 * n) out.old }
+    ensures value { result ≡ carries (S.octets sent.now) check n }
 {
     let mut k = check;
     for m in 0..n {
-        let p = 576 * m;
         let l = 12 * m;
-        let g = 96 * m;
         let a = 579 * m;
-        let octets = replaced(&payload[p..p + 576], &signalling[g..g + 96]);
-        k = write_superframe(&octets, &link[l..l + 12], k, &mut out[a..a + 579]);
+        k = sent.write_at(m, &link[l..l + 12], k, &mut out[a..a + 579]);
     }
     k
 }
@@ -189,7 +200,7 @@ pub fn write(payload: &[u8], link: &[u8], check: u64, out: &mut [u8]) -> Result<
     if out.len() < 579 * n {
         return Err(Refused::NoRoom);
     }
-    Ok(write_all(payload, link, check, n, out))
+    Ok(write_all(&Plain { payload }, link, check, n, out))
 }
 
 // The same, with the last bits of frames 6, 12, 18 and 24 replaced.
@@ -210,5 +221,9 @@ pub fn write_signalled(
     if out.len() < 579 * n {
         return Err(Refused::NoRoom);
     }
-    Ok(write_replaced(payload, link, check, signalling, n, out))
+    let sent = Signalled {
+        payload,
+        signalling,
+    };
+    Ok(write_all(&sent, link, check, n, out))
 }

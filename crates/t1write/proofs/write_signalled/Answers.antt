@@ -9,7 +9,7 @@ use Rattle.base.specs.Number.{refusal_number}
 use Rattle.base.proofs.NumberLaws.{refusal_above_0}
 use Rattle.t1.specs.Payload.{superframes}
 use Rattle.t1write.specs.Writing.{with_signals}
-use Rattle.t1write.proofs.Calls.{fault_first_signalled, no_fault_signalled, sound_is, bits_are, wrote_signalled, told_no, told_yes}
+use Rattle.t1write.proofs.Calls.{fault_first_signalled, no_fault_signalled, sound_is, bits_are, signals_inputs, wrote_signalled, told_no, told_yes}
 use Rattle.t1write.proofs.Signals.{length_signals}
 use Rattle.t1write.proofs.write_signalled.Goals as goal
 
@@ -43,12 +43,17 @@ returns-then-out-n c =
     (ap not (sym c.are_bits.ensures ∙ c.if-not-are_bits.false)) (lt-ltb _ _ c.if-out-n.true) in
     wrote_signalled.1 (told_no _ (with_signals p g) a.link.now a.check a.out.now 4 n (λ z. omega arith))
 
-pub write_replaced-requires : goal.write_replaced-requires
-write_replaced-requires c =
+pub invariant_of-sent : goal.invariant_of-sent
+invariant_of-sent c =
+    record {
+      bits = (bits_are c.args.signalling.now (96 * superframes c.args.payload.now)).0 (sym c.are_bits.ensures ∙ c.if-not-are_bits.false);
+    }
+
+pub write_all-requires : goal.write_all-requires
+write_all-requires c =
     let a = c.args in
     let p = a.payload.now in (
-      ((sound_is p a.link.now a.check).0 (sym c.in_ok-fault.ensures.number)).inputs,
-      (bits_are a.signalling.now (96 * superframes p)).0 (sym c.are_bits.ensures ∙ c.if-not-are_bits.false),
+      signals_inputs a.signalling.now ((sound_is p a.link.now a.check).0 (sym c.in_ok-fault.ensures.number)).inputs,
       c.if-out-n.false,
     )
 
@@ -61,4 +66,4 @@ returns c =
     (ap not (sym c.are_bits.ensures ∙ c.if-not-are_bits.false)) (le-ltb _ _ c.if-out-n.false) in
     wrote_signalled.1
     (told_yes _ (with_signals p g) a.link.now a.check a.out.now n (superframes p) _ _ (ap (λ k. k / 576) (sym (length_signals p g)))
-    c.write_replaced.ensures.value c.write_replaced.ensures.out_after)
+    c.write_all.ensures.value c.write_all.ensures.out_after)
