@@ -168,8 +168,8 @@ fn are_bits(octets: &[u8], n: usize) -> bool
         return false;
     }
     let mut all = 0;
-    for i in 0..n {
-        all = all | octets[i];
+    for octet in octets {
+        all |= *octet;
     }
     all < 2
 }
