@@ -1,4 +1,4 @@
-use Rattle.std.proofs.Common.{◌≡◌, ◌<◌, get_or}
+use Rattle.std.proofs.Common.{◌≡◌, get_or}
 use lib.Dec.{ltb}
 use Rattle.base.specs.Tab.{all}
 use Rattle.t1write.proofs.are_bits.Given as goal
