@@ -1,14 +1,11 @@
--- `joined` meets its contract: the two shifts together are of 64 bits.
 use Prim.Native.Nat.{◌+◌, ◌-◌, ◌*◌, ◌/◌, ◌%◌, ◌^◌, ◌<◌}
 use mathlib.Core.Path.{◌≡◌, sym, ap, ◌∙◌}
 use native.Mathlib.Omega.{arith}
-use borrow.Author.Rules.{rules}
 use lib.Bits.{bit_or}
 use Rattle.line.proofs.BitLaws.{shifts_join}
-use Rattle.t1write.proofs.joined.Statement.{statement}
-use Rattle.t1write.proofs.joined.Tie as tie
+use Rattle.t1write.proofs.joined.Goals as goal
 
-returns : tie.Need-returns
+pub returns : goal.returns
 returns c =
     let a = c.args in
     let e : a.g + 1 + (63 - a.g) ≡ 64 = omega arith in
@@ -16,6 +13,3 @@ returns c =
     let h : a.low < 2 ^ (63 - a.g + (a.g + 1)) = rw d (omega arith) in
     ap (λ n. bit_or (a.high * 2 ^ (63 - a.g) % 2 ^ n) (a.low / 2 ^ (a.g + 1))) (sym e)
     ∙ shifts_join a.high a.low (a.g + 1) (63 - a.g) h
-
-pub joined_spec : {M : Type 1} → statement M
-joined_spec = tie.close (tie.spec (search rules) (search rules) (search rules) (search rules) returns)
