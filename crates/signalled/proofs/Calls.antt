@@ -15,6 +15,7 @@ use Rattle.base.specs.declared.Refused.{Refused}
 use Rattle.base.proofs.AnswerLaws.{accepted_so, accepted_not, accepted_single, joined_first, joined_then, first_tells, tells_first}
 use Rattle.e1.specs.Payload.{multiframes, sized}
 use Rattle.write.specs.Writing.{carries, written}
+use Rattle.write.specs.Inputs.{Inputs}
 use Rattle.write.specs.Entry as write
 use Rattle.write.specs.Entry.{faults, no_room}
 use Rattle.write.specs.Answer.{Written, accept, refuse, answered}
@@ -84,6 +85,17 @@ module _ (p o : List ℕ) (c : ℕ) (xy v : List ℕ) (m : ℕ) where
         given xy v (multiframes p) (not-false _ t.1.1.1.0),
         plain.accepted_call (with_slot16 p xy v) o c m (plain_refusal ∙ plain_accepts z),
       )
+
+-- and what the writer is given then
+module _ (p o : List ℕ) (c : ℕ) (xy v : List ℕ) (m : ℕ) (z : refusal p o c xy v m ≡ 0) where
+  pub accepted_inputs : Inputs (with_slot16 p xy v) o c (multiframes p)
+  accepted_inputs = rw (with_multiframes p xy v) at ((accepted_call p o c xy v m z).1.inputs)
+
+  pub accepted_whole : length p ≡ 496 * length xy
+  accepted_whole = rw (sym (accepted_call p o c xy v m z).0.its_xy.long) at (accepted_fits p o c xy v m z).inputs.payload_length
+
+  pub accepted_given : Given xy v (length xy)
+  accepted_given = let g = (accepted_call p o c xy v m z).0 in rw (sym g.its_xy.long) at g
 
 -- what a call answers
 module _ (p o : List ℕ) (c : ℕ) (xy v out : List ℕ) where

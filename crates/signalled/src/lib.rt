@@ -1,17 +1,14 @@
 // Multiframes written with signalling in slot 16.
 #![tactic(auto)]
 
-ghost use Rattle.std.specs.Prelude.{◌≡◌, [], ◌∷◌, ◌++◌, ◌*◌, ◌≤◌, ◌<◌, length, drop, set};
-ghost use Rattle.crc.specs.Fold.{remainders};
-ghost use Rattle.e1.specs.Block.{block_check};
-ghost use Rattle.write.specs.Writing.{block, carries, written};
+ghost use Rattle.std.specs.Prelude.{◌≡◌, ◌*◌, ◌≤◌, ◌<◌, length};
 ghost use Rattle.write.specs.Answer.{answered};
-ghost use Rattle.write.specs.Inputs.{Inputs};
 ghost use Rattle.signalled.specs.Slot16.{slot16, with_slot16, nibbles, signals_fit};
 ghost use Rattle.signalled.specs.Entry.{Wrote};
 ghost use Rattle.signalled.specs.Given.{Given};
 
 use base::Refused;
+use write::Payload;
 
 // n octets, each from low to 15
 fn nibbles(octets: &[u8], n: usize, low: u8) -> bool
@@ -37,105 +34,39 @@ fn signals_fit(xy: &[u8], abcd: &[u8], n: usize) -> bool
     nibbles(xy, n, 0) & nibbles(abcd, 30 * n, 1)
 }
 
-// slot 16 of frame i of a multiframe
-fn slot_16(xy: u8, abcd: &[u8], i: usize) -> u8
-    requires { Given (xy ∷ []) abcd.now 1 × (i < 16) }
-    ensures { result ≡ slot16 (xy ∷ []) abcd.now i }
-{
-    if i == 0 {
-        return xy;
-    }
-    16 * abcd[i - 1] + abcd[i + 14]
+// a payload, and what stands in slot 16 of its frames in its place
+#[derive(Clone, Copy)]
+struct Signalled<'a> {
+    payload: &'a [u8],
+    xy: &'a [u8],
+    abcd: &'a [u8],
+    ghost whole: { length payload.now ≡ 496 * length xy.now },
+    ghost given: { Given xy.now abcd.now (length xy.now) },
 }
 
-// a frame's payload with slot 16 replaced by x, by value
-fn with_slot16(payload: &[u8], x: u8) -> [u8; 31]
-    requires { length payload.now ≡ 31 }
-    ensures { result ≡ set payload.now 15 x }
-{
-    let mut octets = [0; 31];
-    for j in 0..31 {
-        octets[j] = payload[j];
+impl Signalled<'_> {
+    fn slot_16(&self, f: usize) -> u8
+        requires { f < 16 * length self.now.xy.now }
+        ensures { result ≡ slot16 self.now.xy.now self.now.abcd.now f }
+    {
+        let m = f / 16;
+        let i = f % 16;
+        if i == 0 {
+            return self.xy[m];
+        }
+        let c = 30 * m + i;
+        16 * self.abcd[c - 1] + self.abcd[c + 14]
     }
-    octets[15] = x;
-    octets
 }
 
-// block b, 0 or 1, of a multiframe, which carries the check k: its frames, and its check
-fn write_block(
-    payload: &[u8],
-    overhead: &[u8],
-    k: u8,
-    xy: u8,
-    abcd: &[u8],
-    b: usize,
-    out: &mut [u8],
-    table: &[[u8; 256]; 16],
-) -> u8
-    requires { Inputs payload.now overhead.now k 1 × Given (xy ∷ []) abcd.now 1 × (b < 2) × (length out.old ≡ 256)
-        × (table.now ≡ remainders) }
-    ensures out_after { out.new
-        ≡ block (with_slot16 payload.now (xy ∷ []) abcd.now) overhead.now k b }
-    ensures value { (result ≡ block_check out.new 0) × (result < 16) }
-{
-    for i in 0..8 {
-        let f = 8 * b + i;
-        let slot = write::slot_0(k, f, overhead[f / 2]);
-        let p = 31 * f;
-        let octets = with_slot16(&payload[p..p + 31], slot_16(xy, abcd, f));
-        let a = 32 * i;
-        write::write_frame(slot, &octets, &mut out[a..a + 32]);
-    }
-    e1::block_check(out, 0, k, table)
-}
+impl Payload for Signalled<'_> {
+    ghost octets = { λ s. with_slot16 s.payload.now s.xy.now s.abcd.now };
 
-// a multiframe, whose first block carries the check k: its blocks, and the check of the second
-fn write_multiframe(
-    payload: &[u8],
-    overhead: &[u8],
-    k: u8,
-    xy: u8,
-    abcd: &[u8],
-    out: &mut [u8],
-    table: &[[u8; 256]; 16],
-) -> u8
-    requires { Inputs payload.now overhead.now k 1 × Given (xy ∷ []) abcd.now 1 × (length out.old ≡ 512)
-        × (table.now ≡ remainders) }
-    ensures out_after { out.new
-        ≡ written (with_slot16 payload.now (xy ∷ []) abcd.now) overhead.now k 2 }
-    ensures value { result ≡ carries (with_slot16 payload.now (xy ∷ []) abcd.now) overhead.now k 2 }
-{
-    let c = write_block(payload, overhead, k, xy, abcd, 0, &mut out[0..256], table);
-    write_block(payload, overhead, c, xy, abcd, 1, &mut out[256..512], table)
-}
-
-// n multiframes, each with its part of what is given and of the output, and the check of the last block
-fn write_all(payload: &[u8], overhead: &[u8], k: u8, xy: &[u8], abcd: &[u8], out: &mut [u8]) -> u8
-    requires { Inputs payload.now overhead.now k (length xy.now) × Given xy.now abcd.now (length xy.now)
-        × (length xy.now ≤ 16) × (512 * length xy.now ≤ length out.old) }
-    ensures out_after { out.new ≡ written (with_slot16 payload.now xy.now abcd.now) overhead.now k
-        (2 * length xy.now) ++ drop (512 * length xy.now) out.old }
-    ensures value { result ≡ carries (with_slot16 payload.now xy.now abcd.now) overhead.now k
-        (2 * length xy.now) }
-{
-    let table = crc::table::remainders();
-    let mut c = k;
-    for m in 0..xy.len() {
-        let p = 496 * m;
-        let h = 8 * m;
-        let v = 30 * m;
-        let a = 512 * m;
-        c = write_multiframe(
-            &payload[p..p + 496],
-            &overhead[h..h + 8],
-            c,
-            xy[m],
-            &abcd[v..v + 30],
-            &mut out[a..a + 512],
-            &table,
-        );
+    fn frame(&self, f: usize) -> [u8; 31] {
+        let mut octets = self.payload.frame(f);
+        octets[15] = self.slot_16(f);
+        octets
     }
-    c
 }
 
 // whole multiframes from the payload and the overhead, the first block carrying check, with the signalling of xy and abcd
@@ -159,5 +90,6 @@ pub fn write_signalled(
     if out.len() < 512 * n {
         return Err(Refused::NoRoom);
     }
-    Ok(write_all(payload, overhead, check as u8, xy, abcd, out) as u64)
+    let payload = Signalled { payload, xy, abcd };
+    Ok(write::write_all(&payload, overhead, check as u8, n, out) as u64)
 }

@@ -1,18 +1,18 @@
 // Writing multiframes of an E1 line.
 #![tactic(auto)]
 
-ghost use Rattle.std.specs.Prelude.{◌≡◌, cond, ◌++◌, ◌-◌, ◌*◌, ◌^◌, ◌<◌, ◌≤◌, eqb, length, get_or, drop};
-ghost use Rattle.base.specs.Tab.{tab};
-ghost use Rattle.crc.specs.Fold.{remainders};
+ghost use Rattle.std.specs.Prelude.{◌≡◌, ℕ, List, ◌∷◌, ◌++◌, ◌+◌, ◌*◌, ◌^◌, ◌<◌, ◌≤◌, length, drop};
+ghost use Rattle.std.specs.List.{between};
 ghost use Rattle.e1.specs.Block.{block_check};
 ghost use Rattle.write.specs.Writing.{bit1, slot0, block, carries, written};
 ghost use Rattle.base.specs.Answer.{first_number};
 ghost use Rattle.base.specs.Number.{number_in};
 ghost use Rattle.write.specs.Answer.{answered};
 ghost use Rattle.write.specs.Entry.{overhead_limit, overhead_fits, faults, Wrote};
-ghost use Rattle.write.specs.Inputs.{Inputs};
+ghost use Rattle.write.specs.Inputs.{BlockInputs, Inputs};
 
 use base::Refused;
+use crc::table::Remainders;
 
 // the multiframe signal
 const SIGNAL: [u8; 6] = [0, 0, 1, 0, 1, 1];
@@ -30,7 +30,7 @@ fn bit_1(f: usize, x: u8) -> u8
 }
 
 // slot 0 of frame f, in a block that carries the check k
-pub fn slot_0(k: u8, f: usize, x: u8) -> u8
+fn slot_0(k: u8, f: usize, x: u8) -> u8
     requires { x < 128 }
     ensures { result ≡ slot0 k f x }
 {
@@ -40,89 +40,77 @@ pub fn slot_0(k: u8, f: usize, x: u8) -> u8
     128 * bit_1(f, x) + 64 + x % 64
 }
 
-// a frame's payload, by value: it is read whole before any of it is written
-fn taken(payload: &[u8]) -> [u8; 31]
-    requires { length payload.now ≡ 31 }
-    ensures { result ≡ payload.now }
-{
-    let mut octets = [0; 31];
-    for j in 0..31 {
-        octets[j] = payload[j];
-    }
-    octets
+// a payload, taken frame by frame
+pub trait Payload {
+    ghost octets: { Self → List ℕ };
+
+    // the octets of frame f, by value: they are read whole before any of them is written
+    fn frame(&self, f: usize) -> [u8; 31]
+        requires { 31 * f + 31 ≤ length (octets self.now) }
+        ensures { result ≡ between (31 * f) (31 * f + 31) (octets self.now) };
 }
 
-// a frame: slot 0, and its payload in slots 1 to 31
-pub fn write_frame(slot: u8, payload: &[u8], out: &mut [u8])
-    requires { (length payload.now ≡ 31) × (length out.old ≡ 32) }
-    ensures { out.new ≡ tab 32 (λ j. cond (eqb j 0) slot (get_or payload.now (j - 1) 0)) }
+// as it stands
+impl Payload for &[u8] {
+    ghost octets = { λ p. p.now };
+
+    fn frame(&self, f: usize) -> [u8; 31] {
+        let p = 31 * f;
+        *self[p..p + 31].as_array().unwrap()
+    }
+}
+
+// a frame: slot 0, and its payload in slots 1 to 31. By `copy_from_slice` it was slower: whether the two overlap is tested.
+fn write_frame(slot: u8, octets: [u8; 31], out: &mut [u8])
+    requires { length out.old ≡ 32 }
+    ensures { out.new ≡ slot ∷ octets }
 {
-    let octets = taken(payload);
     out[0] = slot;
-    for j in 1..32 {
-        out[j] = octets[j - 1];
+    for j in 0..31 {
+        out[j + 1] = octets[j];
     }
 }
 
-// block b, 0 or 1, of a multiframe, which carries the check k: its frames, and its check
-fn write_block(
-    payload: &[u8],
+// block b, which carries the check k: its frames, and its check
+fn write_block<P: Payload>(
+    payload: &P,
     overhead: &[u8],
     k: u8,
     b: usize,
     out: &mut [u8],
-    table: &[[u8; 256]; 16],
+    table: &Remainders,
 ) -> u8
-    requires { Inputs payload.now overhead.now k 1 × (b < 2) × (length out.old ≡ 256) × (table.now ≡ remainders) }
-    ensures out_after { out.new ≡ block payload.now overhead.now k b }
+    requires { BlockInputs (P.octets payload.now) overhead.now k b × (length out.old ≡ 256) }
+    ensures out_after { out.new ≡ block (P.octets payload.now) overhead.now k b }
     ensures value { (result ≡ block_check out.new 0) × (result < 16) }
 {
     for i in 0..8 {
         let f = 8 * b + i;
         let slot = slot_0(k, f, overhead[f / 2]);
-        let p = 31 * f;
         let a = 32 * i;
-        write_frame(slot, &payload[p..p + 31], &mut out[a..a + 32]);
+        write_frame(slot, payload.frame(f), &mut out[a..a + 32]);
     }
     e1::block_check(out, 0, k, table)
 }
 
-// a multiframe, whose first block carries the check k: its blocks, and the check of the second
-fn write_multiframe(
-    payload: &[u8],
+// n multiframes, block after block, and the check of the last
+pub fn write_all<P: Payload>(
+    payload: &P,
     overhead: &[u8],
-    k: u8,
+    check: u8,
+    n: usize,
     out: &mut [u8],
-    table: &[[u8; 256]; 16],
 ) -> u8
-    requires { Inputs payload.now overhead.now k 1 × (length out.old ≡ 512) × (table.now ≡ remainders) }
-    ensures out_after { out.new ≡ written payload.now overhead.now k 2 }
-    ensures value { result ≡ carries payload.now overhead.now k 2 }
-{
-    let c = write_block(payload, overhead, k, 0, &mut out[0..256], table);
-    write_block(payload, overhead, c, 1, &mut out[256..512], table)
-}
-
-// n multiframes, each with its part of the payload, of the overhead and of the output, and the check of the last block
-fn write_all(payload: &[u8], overhead: &[u8], k: u8, n: usize, out: &mut [u8]) -> u8
-    requires { Inputs payload.now overhead.now k n × (512 * n ≤ length out.old) }
+    requires { Inputs (P.octets payload.now) overhead.now check n × (512 * n ≤ length out.old) }
     ensures out_after { out.new
-        ≡ written payload.now overhead.now k (2 * n) ++ drop (512 * n) out.old }
-    ensures value { result ≡ carries payload.now overhead.now k (2 * n) }
+        ≡ written (P.octets payload.now) overhead.now check (2 * n) ++ drop (512 * n) out.old }
+    ensures value { result ≡ carries (P.octets payload.now) overhead.now check (2 * n) }
 {
-    let table = crc::table::remainders();
-    let mut c = k;
-    for m in 0..n {
-        let p = 496 * m;
-        let h = 8 * m;
-        let a = 512 * m;
-        c = write_multiframe(
-            &payload[p..p + 496],
-            &overhead[h..h + 8],
-            c,
-            &mut out[a..a + 512],
-            &table,
-        );
+    let table = Remainders::new();
+    let mut c = check;
+    for b in 0..2 * n {
+        let a = 256 * b;
+        c = write_block(payload, overhead, c, b, &mut out[a..a + 256], &table);
     }
     c
 }
@@ -178,5 +166,5 @@ pub fn write(payload: &[u8], overhead: &[u8], check: u64, out: &mut [u8]) -> Res
     if out.len() < 512 * n {
         return Err(Refused::NoRoom);
     }
-    Ok(write_all(payload, overhead, check as u8, n, out) as u64)
+    Ok(write_all(&payload, overhead, check as u8, n, out) as u64)
 }

@@ -2,7 +2,7 @@
 use Rattle.std.proofs.Common.{sym, length}
 use Rattle.std.proofs.lemmas.Result.{err_from_is_err_and}
 use Rattle.base.specs.declared.Refused.TheVariants.{NoRoom, Signalling}
-use Rattle.signalled.proofs.Calls.{fault_first, faultless, no_signals, room_short, sound, refused, taken, accepted_fits, accepted_call}
+use Rattle.signalled.proofs.Calls.{fault_first, faultless, no_signals, room_short, sound, refused, taken, accepted_inputs, accepted_whole, accepted_given}
 use Rattle.signalled.proofs.write_signalled.Goals as goal
 
 pub returns-in_err-fault : goal.returns-in_err-fault
@@ -30,20 +30,27 @@ returns-then-out-n c =
     (sym c.if-not-signals_fit.ensures) c.if-out-n.true in
     refused a.payload.now a.overhead.now a.check a.xy.now a.abcd.now a.out.now NoRoom e
 
+pub invariant_of-payload : goal.invariant_of-payload
+invariant_of-payload c =
+    let a = c.args in
+    let z = sym (sound a.payload.now a.overhead.now a.check a.xy.now a.abcd.now (length a.out.now) c.in_ok-fault.ensures
+    (sym c.if-not-signals_fit.ensures) c.if-out-n.false) in
+    record {
+      whole = accepted_whole a.payload.now a.overhead.now a.check a.xy.now a.abcd.now (length a.out.now) z;
+      given = accepted_given a.payload.now a.overhead.now a.check a.xy.now a.abcd.now (length a.out.now) z;
+    }
+
 pub write_all-requires : goal.write_all-requires
 write_all-requires c =
     let a = c.args in
     let z = sym (sound a.payload.now a.overhead.now a.check a.xy.now a.abcd.now (length a.out.now) c.in_ok-fault.ensures
     (sym c.if-not-signals_fit.ensures) c.if-out-n.false) in
-    let k = accepted_fits a.payload.now a.overhead.now a.check a.xy.now a.abcd.now (length a.out.now) z in
-    let g = (accepted_call a.payload.now a.overhead.now a.check a.xy.now a.abcd.now (length a.out.now) z).0 in
-    rw g.its_xy.long (k.inputs, g, k.most, k.room)
+    (accepted_inputs a.payload.now a.overhead.now a.check a.xy.now a.abcd.now (length a.out.now) z, c.if-out-n.false)
 
 pub returns : goal.returns
 returns c =
     let a = c.args in
     let z = sound a.payload.now a.overhead.now a.check a.xy.now a.abcd.now (length a.out.now) c.in_ok-fault.ensures
     (sym c.if-not-signals_fit.ensures) c.if-out-n.false in
-    let n = (accepted_call a.payload.now a.overhead.now a.check a.xy.now a.abcd.now (length a.out.now) (sym z)).0.its_xy.long in
     taken a.payload.now a.overhead.now a.check a.xy.now a.abcd.now a.out.now c.write_all.result c.write_all.new.out z
-    (rw n at c.write_all.ensures.value) (rw n at c.write_all.ensures.out_after)
+    c.write_all.ensures.value c.write_all.ensures.out_after
