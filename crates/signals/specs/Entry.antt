@@ -1,5 +1,5 @@
 -- What `signals` answers, and what it leaves in the output (KIT §5).
-use Rattle.std.specs.Prelude.{ℕ, ◌-◌, ◌*◌, ◌/◌, ◌%◌, false, ◌≡◌, List, [], ◌∷◌, ◌++◌, ltb, length, drop, replicate}
+use Rattle.std.specs.Prelude.{ℕ, ◌-◌, ◌*◌, ◌/◌, ◌%◌, ◌≡◌, List, [], ◌∷◌, ◌++◌, ltb, length, drop, replicate}
 use Rattle.base.specs.Answer.{accepted, Refusal, ◌when◌, first_number}
 use Rattle.base.specs.Tab.{tab}
 use Rattle.line.specs.Bit.{octet_at}

@@ -150,8 +150,8 @@ fn slot16_of(s: &[u8], q: usize, g: usize) -> [u8; 256]
     let i = q >> 3;
     let o = q & 7;
     let mut octets = [0; 256];
-    for f in 0..16 * g {
-        octets[f] = line::octet_in(s, i + 32 * f + 16, o);
+    for (f, octet) in octets[..16 * g].iter_mut().enumerate() {
+        *octet = line::octet_in(s, i + 32 * f + 16, o);
     }
     octets
 }

@@ -1,8 +1,7 @@
 -- Each signalling multiframe that is read has its part.
-use Rattle.std.proofs.Common.{rules, ◌≡◌, ◌+◌, ◌-◌, ◌*◌, get_or, take, ◌∙◌, arith, get_or-take}
-use Rattle.base.proofs.PartLaws.{part_length}
+use Rattle.std.proofs.Common.{rules, arith, get_or-take}
 use Rattle.signals.proofs.Found.{found_few}
-use Rattle.signals.proofs.Filling.{none_filled, few, room, there, filled_more, all_filled}
+use Rattle.signals.proofs.Filling.{none_filled, room, there, filled_more, all_filled}
 use Rattle.signals.proofs.Followed.put_abcd.Goals as goal
 
 pub shared_ref_as_front-start-items : goal.shared_ref_as_front-start-items
