@@ -1,5 +1,5 @@
 -- A look in numbers is the reading from the start's bit on.
-use Prim.Native.Nat.{ℕ, ◌+◌, ◌-◌, ◌*◌, ◌/◌, ◌%◌, ◌^◌, ◌≤◌, ◌<◌}
+use Prim.Native.Nat.{ℕ, ◌+◌, ◌-◌, ◌*◌, ◌/◌, ◌%◌, ◌^◌, ◌≤◌}
 use mathlib.Core.Path.{◌≡◌, refl, sym, ap, ap₂, ◌∙◌}
 use mathlib.Core.List.{List}
 use Rattle.std.specs.Prelude.{Option, None, Some}
@@ -190,24 +190,6 @@ looks_line {x} {s} {r} line e l =
       there = l.there;
       within = l.within;
     }
-
--- at most 1,024 octets are kept
-pub kept_few : (s : List ℕ) (q h : ℕ) (x : Tracked) (gone : ℕ) → q < 8 → Tracks s q h x → gone ≡ gone_of (length s) x.used x.loss
-    → length (drop gone s) ≤ 1024
-unfolding whole
-kept_few s q h x gone b t e =
-    let m = whole s q in
-    let l = loss_from s q h m in
-    omega (
-      arith,
-      length-drop gone s,
-      e ∙ ap₂ (gone_of (length s)) t.its_used t.its_loss,
-      fits l,
-    )
-  where
-    fits : (l : Option ℕ) → length s ≤ gone_of (length s) (used_of l (whole s q)) l + 1024
-    fits None = omega arith
-    fits (Some f) = omega arith
 
 -- what was tracked is little
 pub tracked_few : (s : List ℕ) (q h : ℕ) (x : Tracked) → Tracks s q h x

@@ -60,15 +60,6 @@ module _ (w p o : List ℕ) where
         its_slot0 = ho ∙ ap (λ z. x.slot0 ++ drop z o) (sym eo);
       }
 
-  -- what one look tells
-  pub taken_image : (s : List ℕ) (r : Seen) (n : ℕ) → n ≡ length (drop r.gone s)
-      → lacks_room (length p) (length o) r.multiframes ≡ false → (w' p' o' : List ℕ) → w' ≡ over (drop r.gone s) w
-      → p' ≡ payload_of s r.from r.multiframes ++ drop (496 * r.multiframes) p
-      → o' ≡ slot0_of s r.from r.multiframes ++ drop (16 * r.multiframes) o
-      → Takes (told s r) w p o (Ok (record { line = r.line; fill = n; multiframes = r.multiframes })) w' p' o'
-  taken_image s r n en =
-      taken (told s r) n en (payload_length s r.from r.multiframes) (slot0_length s r.from r.multiframes)
-
   -- what two tell, one after the other
   pub taken_two : (s t : List ℕ) (x y : Seen) (n : ℕ) → n ≡ length (drop y.gone t)
       → lacks_room (length p) (length o) (x.multiframes + y.multiframes) ≡ false → (w' p' o' : List ℕ)

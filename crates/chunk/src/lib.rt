@@ -170,7 +170,7 @@ fn from_place(s: &[u8], before: usize, place: usize, k: usize) -> Seen
         place: 8 * before + place,
         k,
     };
-    let x = follow(&s[e..], growth::unread(before + e, found));
+    let x = follow(&s[e..], Line::unread(before + e, found));
     Seen {
         line: x.line,
         gone: e + x.gone,
@@ -186,7 +186,7 @@ fn waits(n: usize, before: usize, found: Found) -> Seen
 {
     let gone = n.saturating_sub(2048);
     Seen {
-        line: growth::unread(before + gone, found),
+        line: Line::unread(before + gone, found),
         gone,
         multiframes: 0,
         from: 0,
@@ -324,28 +324,21 @@ fn take_joined<const N: usize>(
     take_image(c, &image[..n], window, payload, slot0)
 }
 
-// the payload of two images, one behind the other
-fn put_payloads(near: Part, far: Part, out: &mut [u8])
+// what leaves of two images, one behind the other
+fn put_both(near: Part, far: Part, payload: &mut [u8], slot0: &mut [u8])
     requires { Room near.s.now near.q (4096 * near.n) × Room far.s.now far.q (4096 * far.n)
-        × (496 * (near.n + far.n) ≤ length out.old) }
-    ensures { out.new
-        ≡ (payload_of near.entry.s.now near.entry.q near.entry.n ++ payload_of far.entry.s.now far.entry.q far.entry.n) ++ drop (496 * (near.entry.n + far.entry.n)) out.old }
+        × (496 * (near.n + far.n) ≤ length payload.old) × (16 * (near.n + far.n) ≤ length slot0.old) }
+    ensures payload { payload.new
+        ≡ (payload_of near.entry.s.now near.entry.q near.entry.n ++ payload_of far.entry.s.now far.entry.q far.entry.n)
+        ++ drop (496 * (near.entry.n + far.entry.n)) payload.old }
+    ensures slot0 { slot0.new
+        ≡ (slot0_of near.entry.s.now near.entry.q near.entry.n ++ slot0_of far.entry.s.now far.entry.q far.entry.n)
+        ++ drop (16 * (near.entry.n + far.entry.n)) slot0.old }
 {
-    measure::payload_of(near.s, near.q, near.n, out);
-    let a = 496 * near.n;
-    measure::payload_of(far.s, far.q, far.n, &mut out[a..]);
-}
-
-// and the slots 0
-fn put_slots0(near: Part, far: Part, out: &mut [u8])
-    requires { Room near.s.now near.q (4096 * near.n) × Room far.s.now far.q (4096 * far.n)
-        × (16 * (near.n + far.n) ≤ length out.old) }
-    ensures { out.new
-        ≡ (slot0_of near.entry.s.now near.entry.q near.entry.n ++ slot0_of far.entry.s.now far.entry.q far.entry.n) ++ drop (16 * (near.entry.n + far.entry.n)) out.old }
-{
-    measure::slot0_of(near.s, near.q, near.n, out);
-    let a = 16 * near.n;
-    measure::slot0_of(far.s, far.q, far.n, &mut out[a..]);
+    measure::payload_of(near.s, near.q, near.n, payload);
+    measure::payload_of(far.s, far.q, far.n, &mut payload[496 * near.n..]);
+    measure::slot0_of(near.s, near.q, near.n, slot0);
+    measure::slot0_of(far.s, far.q, far.n, &mut slot0[16 * near.n..]);
 }
 
 // two images, of which the first was looked at: the second has what is kept of the first, and the rest of the chunk
@@ -380,8 +373,7 @@ fn take_two(
         q: y.from,
         n,
     };
-    put_payloads(first, second, payload);
-    put_slots0(first, second, slot0);
+    put_both(first, second, payload, slot0);
     Ok(Took {
         line: y.line,
         fill: keep(far, y.gone, window),
@@ -549,8 +541,7 @@ fn take_both(
         q: q + 4096,
         n,
     };
-    put_payloads(first, second, payload);
-    put_slots0(first, second, slot0);
+    put_both(first, second, payload, slot0);
     Ok(Took {
         line,
         fill: keep(far, gone, window),

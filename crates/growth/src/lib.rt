@@ -20,25 +20,27 @@ pub struct Line {
     pub wordbits: usize,
 }
 
-// a line of which no multiframe has left
-pub fn unread(before: usize, found: Found) -> Line
-    ensures { result ≡ unread before found }
-{
-    Line {
-        before: before,
-        found: found,
-        used: 0,
-        lost: 0,
-        words: 0,
-        errored: 0,
-        farend: 0,
-        wordbits: 0,
+impl Line {
+    // a line of which no multiframe has left
+    pub fn unread(before: usize, found: Found) -> Line
+        ensures { result ≡ unread before found }
+    {
+        Line {
+            before,
+            found,
+            used: 0,
+            lost: 0,
+            words: 0,
+            errored: 0,
+            farend: 0,
+            wordbits: 0,
+        }
     }
-}
 
-// A line of which nothing has come.
-pub fn nothing() -> Line
-    ensures { result ≡ nothing }
-{
-    unread(0, Found::Nothing)
+    // A line of which nothing has come.
+    pub fn nothing() -> Line
+        ensures { result ≡ nothing }
+    {
+        Line::unread(0, Found::Nothing)
+    }
 }

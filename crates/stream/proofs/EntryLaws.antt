@@ -220,15 +220,6 @@ module _ (st : Stream) where
         go (BasicAt p) = refl
         go Nothing = refl
 
-  -- the place that is found goes with 15, and with 3 it is 0
-  pub place_beside : (n : ℕ) → number_of st.line.found ≡ suc n → place_of st.line.found ≡ end_place st (suc n)
-  place_beside n e = go st.line.found e
-    where
-      go : (f : Found) → number_of f ≡ suc n → place_of f ≡ (if eqb (suc n) 15 then place_of f else 0)
-      go (At p k) e = absurd (omega arith)
-      go (BasicAt p) e = rw (sym e)
-      go Nothing e = rw (sym e)
-
   pub ended_so : end_refusal st ≡ 0 → (r : Reading) → r ≡ end_accept st
       → ◌≡◌ {A = Ended} (record { stream = record { ended = true; fill = st.fill; line = st.line }; reading = r }) (ending st)
   unfolding ending

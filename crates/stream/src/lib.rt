@@ -30,7 +30,7 @@ impl Stream {
         Stream {
             ended: false,
             fill: 0,
-            line: growth::nothing(),
+            line: Line::nothing(),
         }
     }
 

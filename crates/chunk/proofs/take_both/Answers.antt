@@ -46,28 +46,18 @@ read_both-line-requires c =
     let u = tracks a.far.now a.q 1 c.whole.result c.track-y.result c.whole.ensures c.track-y.ensures in
     (r.0, r.1, r.2, r.4, c.kept-h.ensures, t, r.6, r.7, u, c.gone_by-gone.ensures)
 
-pub put_payloads-requires : goal.put_payloads-requires
-put_payloads-requires c =
+pub put_both-requires : goal.put_both-requires
+put_both-requires c =
     let a = c.args in
     let t = subst (λ h. Tracks a.near.now a.q h a.x) (sym c.kept-h.ensures) c.requires.5 in
     let u = tracks a.far.now a.q 1 c.whole.result c.track-y.result c.whole.ensures c.track-y.ensures in
     let near = tracked_room a.near.now a.q c.kept-h.result a.x t c.requires.1 (omega (arith, t.at_most)) in
-    let far = tracked_room a.far.now a.q 1 c.track-y.result u c.requires.2 (omega (arith, u.at_least, u.at_most)) in (
+    let far = tracked_room a.far.now a.q 1 c.track-y.result u c.requires.2 (omega (arith, u.at_least, u.at_most)) in
+    let h = has_room _ _ _ (sym c.if-lacks_room.ensures) in (
       record { countable = near.countable; there = omega (arith, near.there, t.at_least) },
       record { countable = far.countable; there = omega (arith, far.there, u.at_least) },
-      (has_room _ _ _ (sym c.if-lacks_room.ensures)).0,
-    )
-
-pub put_slots0-requires : goal.put_slots0-requires
-put_slots0-requires c =
-    let a = c.args in
-    let t = subst (λ h. Tracks a.near.now a.q h a.x) (sym c.kept-h.ensures) c.requires.5 in
-    let u = tracks a.far.now a.q 1 c.whole.result c.track-y.result c.whole.ensures c.track-y.ensures in
-    let near = tracked_room a.near.now a.q c.kept-h.result a.x t c.requires.1 (omega (arith, t.at_most)) in
-    let far = tracked_room a.far.now a.q 1 c.track-y.result u c.requires.2 (omega (arith, u.at_least, u.at_most)) in (
-      record { countable = near.countable; there = omega (arith, near.there, t.at_least) },
-      record { countable = far.countable; there = omega (arith, far.there, u.at_least) },
-      (has_room _ _ _ (sym c.if-lacks_room.ensures)).1,
+      h.0,
+      h.1,
     )
 
 pub overflow_add-result : goal.overflow_add-result
@@ -90,4 +80,4 @@ returns c =
     (lost_at (later_by (16 * (a.c.used + (a.x.used - c.kept-h.result) - 1)) y.loss)) c.gone_by-gone.ensures refl line c.read_both-line.ensures)
     (taken_two a.window.now a.payload.now a.slot0.now a.near.now a.far.now (near_seen a.c a.near.now a.q c.kept-h.result a.x)
     (record { line = line; gone = gone; multiframes = y.used - 1; from = a.q + 4096 })
-    c.keep.result c.keep.ensures.0 (sym c.if-lacks_room.ensures) _ _ _ c.keep.ensures.1 c.put_payloads.ensures c.put_slots0.ensures)
+    c.keep.result c.keep.ensures.0 (sym c.if-lacks_room.ensures) _ _ _ c.keep.ensures.1 c.put_both.ensures.payload c.put_both.ensures.slot0)

@@ -12,19 +12,14 @@ look-y-requires c =
       c.requires.2,
     )
 
-pub put_payloads-requires : goal.put_payloads-requires
-put_payloads-requires c = (
-  record { countable = omega arith; there = c.requires.4.there },
-  record { countable = omega arith; there = c.look-y.ensures.there },
-  (has_room _ _ _ (sym c.lacks_room.ensures ∙ c.if-lacks_room.false)).0,
-)
-
-pub put_slots0-requires : goal.put_slots0-requires
-put_slots0-requires c = (
-  record { countable = omega arith; there = c.requires.4.there },
-  record { countable = omega arith; there = c.look-y.ensures.there },
-  (has_room _ _ _ (sym c.lacks_room.ensures ∙ c.if-lacks_room.false)).1,
-)
+pub put_both-requires : goal.put_both-requires
+put_both-requires c =
+    let h = has_room _ _ _ (sym c.lacks_room.ensures ∙ c.if-lacks_room.false) in (
+      record { countable = omega arith; there = c.requires.4.there },
+      record { countable = omega arith; there = c.look-y.ensures.there },
+      h.0,
+      h.1,
+    )
 
 pub keep-requires : goal.keep-requires
 keep-requires c =
@@ -35,4 +30,4 @@ returns c =
     let a = c.args in
     takes_as (ap₂ after c.requires.4.tells c.look-y.ensures.tells)
     (taken_two a.window.now a.payload.now a.slot0.now a.near.now a.far.now a.x c.look-y.result c.keep.result c.keep.ensures.0
-    (sym c.lacks_room.ensures ∙ c.if-lacks_room.false) _ _ _ c.keep.ensures.1 c.put_payloads.ensures c.put_slots0.ensures)
+    (sym c.lacks_room.ensures ∙ c.if-lacks_room.false) _ _ _ c.keep.ensures.1 c.put_both.ensures.payload c.put_both.ensures.slot0)
