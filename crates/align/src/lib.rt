@@ -82,12 +82,7 @@ fn signal(s: &[u8], p: usize, k: usize) -> bool
     requires { Room s.now p 16384 × (k ≤ 26) }
     ensures { result ≡ signal_at s.now p k }
 {
-    for i in 0..6 {
-        if line::bit(s, p + 256 + 512 * (k + i)) != (0b110100 >> i) & 1 {
-            return false;
-        }
-    }
-    true
+    (0..6).all(|i| line::bit(s, p + 256 + 512 * (k + i)) == (0b110100 >> i) & 1)
 }
 
 // the signal once more, 8j later and within the 32 marks
