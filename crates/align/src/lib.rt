@@ -172,11 +172,7 @@ fn marks(s: &[u8], i: usize) -> [u64; 32]
     requires { Room s.now (8 * i) 16384 }
     ensures { Marks s.now i 32 result }
 {
-    let mut m = [0u64; 32];
-    for k in 0..32 {
-        m[k] = line::eight_octets(s, i + 32 + 64 * k);
-    }
-    m
+    std::array::from_fn(|k| line::eight_octets(s, i + 32 + 64 * k))
 }
 
 // where six marks are 0, 0, 1, 0, 1, 1
@@ -203,7 +199,7 @@ fn pairs(g: &[u64; 43]) -> u64
 {
     let mut r = 0;
     for k in 0..19 {
-        r = r | (g[k] & (g[k + 8] | g[k + 16] | g[k + 24]));
+        r |= g[k] & (g[k + 8] | g[k + 16] | g[k + 24]);
     }
     r
 }
