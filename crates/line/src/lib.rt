@@ -42,7 +42,8 @@ pub fn octet(s: &[u8], p: usize) -> u8
     octet_in(s, p >> 3, p & 7)
 }
 
-// the run of 16 octets from bit o of octet i on, by value: it is read whole before any of it is written
+// the run of 16 octets from bit o of octet i on, by value: it is read whole before any of it is written; by index, as with
+// `array::from_fn` it takes three instructions more, and of what `iter_mut().enumerate()` writes no proof knows
 pub fn run_in(s: &[u8], i: usize, o: usize) -> [u8; 16]
     requires { (8 * i + o + 128 ≤ 8 * length s.now) × (o < 8) }
     ensures { result ≡ tab 16 (λ j. octet_at s.now (8 * i + o + 8 * j)) }
@@ -54,12 +55,15 @@ pub fn run_in(s: &[u8], i: usize, o: usize) -> [u8; 16]
     octets
 }
 
-// writes a run to `out`; reading and writing as one function, which E1 and T1 both call, is twice as slow for E1
+// writes a run to `out`, octet by octet: with `copy_from_slice` the compiler keeps the run in memory and compares places,
+// and reading and writing as one function, which E1 and T1 both call, is twice as slow for E1
 pub fn put_run(octets: [u8; 16], out: &mut [u8])
     requires { length out.old ≡ 16 }
     ensures { out.new ≡ octets }
 {
-    out.copy_from_slice(&octets);
+    for j in 0..16 {
+        out[j] = octets[j];
+    }
 }
 
 // the seven bits from place p + 1 on, of the octet at p
