@@ -1,45 +1,35 @@
 // What several programs print: the report of a line, and what its telephones say.
 #![tactic(auto)]
 
-use program::{Printed, print, print_line, print_number};
+use program::Printed;
 use read::Reading;
 use signals::Signalling;
+use std::fmt;
+use std::fmt::{Display, Formatter};
 
-fn print_cause(rt: &impl Print, cause: u64) -> Printed {
-    if cause == 1 {
-        return print(rt, b"cause word\n");
+#[derive(Clone, Copy)]
+pub struct Report(pub Reading);
+
+impl Display for Report {
+    fn fmt<W: fmt::Write>(&self, f: &mut Formatter<W>) -> fmt::Result {
+        let r = self.0;
+        writeln!(f, "place {}", r.place)?;
+        writeln!(f, "start {}", r.start)?;
+        writeln!(f, "whole {}", r.whole)?;
+        writeln!(f, "used {}", r.used)?;
+        match r.loss {
+            None => writeln!(f, "lost no")?,
+            Some(frame) => {
+                let cause = if r.cause() == 1 { "word" } else { "bit2" };
+                writeln!(f, "lost {frame}\ncause {cause}")?;
+            }
+        }
+        writeln!(f, "words {}", r.words)?;
+        writeln!(f, "wordbits {}", r.wordbits)?;
+        writeln!(f, "compared {}", r.compared)?;
+        writeln!(f, "errored {}", r.errored)?;
+        writeln!(f, "farend {}", r.farend)
     }
-    print(rt, b"cause bit2\n")
-}
-
-fn print_lost(rt: &impl Print, frame: usize, cause: u64) -> Printed {
-    if frame == 0 {
-        return print(rt, b"lost no\n");
-    }
-    print_line(rt, b"lost ", frame).and(print_cause(rt, cause))
-}
-
-pub fn print_report(rt: &impl Print, r: Reading) -> Printed {
-    print_line(rt, b"place ", r.place)
-        .and(print_line(rt, b"start ", r.start))
-        .and(print_line(rt, b"whole ", r.whole))
-        .and(print_line(rt, b"used ", r.used))
-        .and(print_lost(rt, r.lost, r.cause))
-        .and(print_line(rt, b"words ", r.words))
-        .and(print_line(rt, b"wordbits ", r.wordbits))
-        .and(print_line(rt, b"compared ", r.compared))
-        .and(print_line(rt, b"errored ", r.errored))
-        .and(print_line(rt, b"farend ", r.farend))
-}
-
-// the report, or the refusal: its number is printed, and said in words on standard error
-pub fn answer(rt: &impl Print, name: &[u8], r: Reading) {
-    if r.number == 0 {
-        program::written(name, print_report(rt, r));
-        return;
-    }
-    program::answer_refused(rt, name, r.number);
-    program::name_place(name, r.number, r.place);
 }
 
 // ABCD of a channel in a signalling multiframe, and in the one read before it
@@ -49,51 +39,36 @@ pub struct Change {
     pub is: u8,
 }
 
-pub fn print_bits(rt: &impl Print, before: &[u8], abcd: u8) -> Printed {
-    print(rt, before).and(print(
-        rt,
-        &[
-            b'0' + abcd / 8 % 2,
-            b'0' + abcd / 4 % 2,
-            b'0' + abcd / 2 % 2,
-            b'0' + abcd % 2,
-        ],
-    ))
-}
-
-// a line for a channel that changes, in the signalling multiframe that begins with frame f
-pub fn print_change(rt: &impl Print, f: usize, channel: usize, h: Change) -> Printed {
-    if h.was == h.is {
-        return Ok(());
+impl Change {
+    // a line for a channel that changes, in the signalling multiframe that begins with frame f
+    pub fn print(self, rt: &impl Print, f: usize, channel: usize) -> Printed {
+        let was = self.was;
+        let is = self.is;
+        if was == is {
+            return Ok(());
+        }
+        println!(rt; "2 ms {}  channel {channel}  {was:04b} -> {is:04b}", f / 16)
     }
-    print_number(rt, b"2 ms ", (f / 16) as u64)
-        .and(print_number(rt, b"  channel ", channel as u64))
-        .and(print_bits(rt, b"  ", h.was))
-        .and(print_bits(rt, b" -> ", h.is))
-        .and(print(rt, b"\n"))
 }
 
-fn print_first(rt: &impl Print, frame: usize) -> Printed {
-    if frame == 0 {
-        return print(rt, b"first no\n");
+// what the telephones of a line say in all
+#[derive(Clone, Copy)]
+pub struct Values(pub Signalling);
+
+impl Display for Values {
+    fn fmt<W: fmt::Write>(&self, f: &mut Formatter<W>) -> fmt::Result {
+        let s = self.0;
+        writeln!(f, "multiframes {}", s.multiframes)?;
+        match s.first {
+            0 => writeln!(f, "first no")?,
+            frame => writeln!(f, "first {frame}")?,
+        }
+        writeln!(f, "losses {}", s.losses)?;
+        let held = if s.held { "yes" } else { "no" };
+        writeln!(f, "held {held}")?;
+        writeln!(f, "x0 {}", s.x0)?;
+        writeln!(f, "x1 {}", s.x1)?;
+        writeln!(f, "x2 {}", s.x2)?;
+        writeln!(f, "y {}", s.y)
     }
-    print_line(rt, b"first ", frame)
-}
-
-fn print_held(rt: &impl Print, is_held: bool) -> Printed {
-    if is_held {
-        return print(rt, b"held yes\n");
-    }
-    print(rt, b"held no\n")
-}
-
-pub fn print_values(rt: &impl Print, s: Signalling) -> Printed {
-    print_line(rt, b"multiframes ", s.multiframes)
-        .and(print_first(rt, s.first))
-        .and(print_line(rt, b"losses ", s.losses))
-        .and(print_held(rt, s.held))
-        .and(print_line(rt, b"x0 ", s.x0 as usize))
-        .and(print_line(rt, b"x1 ", s.x1 as usize))
-        .and(print_line(rt, b"x2 ", s.x2 as usize))
-        .and(print_line(rt, b"y ", s.y as usize))
 }
