@@ -1,21 +1,22 @@
 // The live map as a crossing: input slots along the top, output slots down the side, a mark where one takes the other.
 ghost use Rattle.std.specs.Prelude.{◌<◌};
 
+use crate::page::page;
 use exchange::State;
-use pen::Pen;
 use std::io::{Result, Write};
 
 // what output j takes, as a host reads it
-fn entry(state: State, j: usize) -> usize
+fn entry(state: &State, j: usize) -> usize
     requires { j < 32 }
     ensures { result < 256 }
 {
-    exchange::host(state, &[3, j as u8, 0, 0]).entry as usize
+    let mut read = *state;
+    read.host(&[3, j as u8, 0, 0]).unwrap_or(0) as usize
 }
 
 // what is the same in every map
-fn grid<W: Write + Drop>(pen: Pen<W>) -> Pen<W> {
-    pen.text(
+fn grid<W: Write>(to: &mut W) -> Result<()> {
+    to.write_all(
         b"<style>
 .axis{font-weight:bold}.top{text-anchor:middle}.side{text-anchor:end}
 path{fill:none;stroke:#ccd4da}circle,.idle rect{fill:#fff;stroke:#8a96a1}.moved0 path{display:none}
@@ -42,45 +43,43 @@ path{fill:none;stroke:#ccd4da}circle,.idle rect{fill:#fff;stroke:#8a96a1}.moved0
 }
 
 // output j, which takes i: from the side to the crossing and up, drawn thick where the slot is moved
-fn takes<W: Write + Drop>(pen: Pen<W>, j: usize, i: usize) -> Pen<W>
+fn takes<W: Write>(to: &mut W, j: usize, i: usize) -> Result<()>
     requires { (j < 32) × (i < 256) }
 {
+    let moved = (i != j) as usize;
     let x = 20 * i;
     let y = 20 * j;
-    pen.fill(
-        b"<g class='moved%'><text class='side' x='-10' y='%'>% takes %</text>\
-<path d='M0 %H%V0'/><circle r='5' cx='%' cy='%'/></g>\n",
-        &[(i != j) as usize, y + 4, j, i, y, x, x, y],
+    let below = y + 4;
+    write!(
+        to,
+        "<g class='moved{moved}'><text class='side' x='-10' y='{below}'>{j} takes {i}</text>\
+<path d='M0 {y}H{x}V0'/><circle r='5' cx='{x}' cy='{y}'/></g>\n"
     )
 }
 
 // output j, which takes none
-fn idle<W: Write + Drop>(pen: Pen<W>, j: usize) -> Pen<W>
+fn idle<W: Write>(to: &mut W, j: usize) -> Result<()>
     requires { (0 < j) × (j < 32) }
 {
     let y = 20 * j;
-    pen.fill(
-        b"<g class='idle'><text class='side' x='-10' y='%'>% idle</text>\
-<path d='M0 %H640'/><rect x='640' y='%' width='10' height='10'/></g>\n",
-        &[y + 4, j, y, y - 5],
+    let below = y + 4;
+    let above = y - 5;
+    write!(
+        to,
+        "<g class='idle'><text class='side' x='-10' y='{below}'>{j} idle</text>\
+<path d='M0 {y}H640'/><rect x='640' y='{above}' width='10' height='10'/></g>\n"
     )
 }
 
-fn outputs<W: Write + Drop>(pen: Pen<W>, state: State) -> Pen<W> {
-    let mut pen = pen;
+// The live map. Answers whether all was written, or why not.
+pub fn map<W: Write + Drop>(mut to: W, state: &State) -> Result<()> {
+    page(&mut to, 800, 800)?;
+    grid(&mut to)?;
     for j in 1..32 {
-        let i = entry(state, j);
-        if i == 0 {
-            pen = idle(pen, j);
-        } else {
-            pen = takes(pen, j, i);
+        match entry(state, j) {
+            0 => idle(&mut to, j)?,
+            i => takes(&mut to, j, i)?,
         }
     }
-    pen
-}
-
-// The live map. Answers whether all was written, or why not.
-pub fn map<W: Write + Drop>(to: W, state: State) -> Result<()> {
-    let pen = grid(Pen::new(to).page(800, 800));
-    outputs(pen, state).text(b"</g>\n</svg>\n").written
+    to.write_all(b"</g>\n</svg>\n")
 }

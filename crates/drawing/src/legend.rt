@@ -1,9 +1,8 @@
 // What is the same in every picture of a line: its style, the heads of the columns, and what each cell means.
-use pen::Pen;
-use std::io::Write;
+use std::io::{Result, Write};
 
-pub fn style<W: Write + Drop>(pen: Pen<W>) -> Pen<W> {
-    pen.text(
+pub fn style<W: Write>(to: &mut W) -> Result<()> {
+    to.write_all(
         b"<style>
 .name{font-weight:bold}.note{font-size:11px;fill:#55626d}.value{font-size:20px}.rest{fill:#d9dde0}
 path{stroke:#1f2a33;stroke-width:1.4}.label{stroke:#fff;stroke-width:3;paint-order:stroke}
@@ -22,9 +21,10 @@ path{stroke:#1f2a33;stroke-width:1.4}.label{stroke:#fff;stroke-width:3;paint-ord
 }
 
 // the heads stand over the rows, and what each cell means from y on
-pub fn legend<W: Write + Drop>(pen: Pen<W>, y: usize) -> Pen<W> {
-    pen.fill(
-        b"<text x='24' y='310'><tspan class='name'>Slot 0, a block a row.</tspan> \
+pub fn legend<W: Write>(to: &mut W, y: usize) -> Result<()> {
+    write!(
+        to,
+        "<text x='24' y='310'><tspan class='name'>Slot 0, a block a row.</tspan> \
 A block's own check is carried in C1 to C4 of the next row.</text>
 <g class='cell' transform='translate(148 340)'>
 <text x='12'>C1</text><text x='60'>word</text><text x='112'>S</text><text x='160'>1 A Sa4-8</text>
@@ -32,7 +32,7 @@ A block's own check is carried in C1 to C4 of the next row.</text>
 <text x='412'>C3</text><text x='460'>word</text><text x='512'>S/E</text><text x='560'>1 A Sa4-8</text>
 <text x='612'>C4</text><text x='660'>word</text><text x='712'>S/E</text><text x='760'>1 A Sa4-8</text>
 <text x='854'>block</text></g>
-<g transform='translate(0 %)'>
+<g transform='translate(0 {y})'>
 <g transform='translate(24 0)'><text x='92' y='16'>C1 to C4, check bits</text>
 <g class='cell bits check'><rect width='84' height='24'/><text x='42' y='16'>1</text></g></g>
 <g transform='translate(24 30)'><text x='92' y='16'>S, the multiframe signal</text>
@@ -62,7 +62,6 @@ A block's own check is carried in C1 to C4 of the next row.</text>
 <g transform='translate(800 60)'><text x='92' y='16'>no used row follows</text>
 <g class='cell dashed'><rect width='84' height='24'/><text x='42' y='16'>not compared</text></g></g>
 </g>
-",
-        &[y],
+"
     )
 }

@@ -6,6 +6,7 @@ mod crossing;
 mod frames;
 mod legend;
 mod multiframes;
+mod page;
 mod report;
 mod ruler;
 mod slot16;
@@ -13,9 +14,9 @@ mod slot16;
 ghost use Rattle.std.specs.Prelude.{◌≤◌, length};
 ghost use Rattle.drawing.specs.Shown.{Shown};
 
-pub use asked::{Asked, said};
+pub use asked::{Asked, Said};
 pub use crossing::map;
-use pen::Pen;
+use page::page;
 use read::Reading;
 use signals::Signalling;
 use std::io::{Result, Write};
@@ -25,46 +26,50 @@ fn drawn(r: Reading) -> usize
     requires { r.used ≤ 16 }
     ensures { result ≤ 17 }
 {
-    if r.lost == 0 {
-        return r.used;
-    }
-    r.used + 1
+    r.used + r.loss.is_some() as usize
 }
 
 // all but the multiframes
-fn page_of<W: Write + Drop>(
-    pen: Pen<W>,
+fn page_of<W: Write>(
+    to: &mut W,
     octets: usize,
     r: Reading,
-    s: Signalling,
-    asked: Asked,
-) -> Pen<W>
+    s: &Signalling,
+    asked: Option<Asked>,
+) -> Result<()>
     requires { Shown octets r }
 {
     let below = 372 + 68 * drawn(r);
-    let pen = legend::style(pen.page(1080, below + 138)).fill(
-        b"<text class='title' x='24' y='40'>A line of % octets</text>\n",
-        &[octets],
-    );
-    let pen = ruler::ruler(report::report(pen, r), octets, r, asked);
-    let pen = slot16::slot16(pen, octets, r.start, s);
-    legend::legend(pen, below)
+    page(to, 1080, below + 138)?;
+    legend::style(to)?;
+    write!(
+        to,
+        "<text class='title' x='24' y='40'>A line of {octets} octets</text>\n"
+    )?;
+    report::report(to, r)?;
+    ruler::ruler(to, octets, r, asked)?;
+    slot16::slot16(to, octets, r.start, s)?;
+    legend::legend(to, below)
 }
 
-// a line, with what `read` and `signals` read of it, and with a place that is asked about
+// a line, with what `read` and `signals` read of it, and with a place that is asked about, if one is
 pub fn line<W: Write + Drop>(
-    to: W,
+    mut to: W,
     image: &[u8],
     r: Reading,
     slot0: &[u8; 256],
-    s: Signalling,
-    asked: Asked,
+    s: &Signalling,
+    asked: Option<Asked>,
 ) -> Result<()>
     requires { Shown (length image.now) r }
 {
-    let pen = page_of(Pen::new(to), image.len(), r, s, asked);
-    let pen = multiframes::multiframes(pen, image, slot0, r);
-    let pen = asked::outlined(pen, r, asked);
-    let pen = multiframes::loss(pen, r.used, r.lost, r.cause).text(b"</svg>\n");
-    pen.written
+    page_of(&mut to, image.len(), r, s, asked)?;
+    multiframes::multiframes(&mut to, image, slot0, r)?;
+    if let Some(asked) = asked {
+        asked::outlined(&mut to, r, asked)?;
+    }
+    if let Some(frame) = r.loss {
+        multiframes::loss(&mut to, r.used, frame)?;
+    }
+    to.write_all(b"</svg>\n")
 }

@@ -1,10 +1,9 @@
 // The report's numbers, a tile each.
-use pen::Pen;
 use read::Reading;
-use std::io::Write;
+use std::io::{Result, Write};
 
-fn tiles<W: Write + Drop>(pen: Pen<W>) -> Pen<W> {
-    pen.text(
+fn tiles<W: Write>(to: &mut W) -> Result<()> {
+    to.write_all(
         b"<g transform='translate(0 60)'><g fill='#f2f5f7'>
 <rect x='24' width='100.5' height='74'/><rect x='127.5' width='100.5' height='74'/>
 <rect x='231' width='100.5' height='74'/><rect x='334.5' width='100.5' height='74'/>
@@ -27,34 +26,41 @@ fn tiles<W: Write + Drop>(pen: Pen<W>) -> Pen<W> {
     )
 }
 
+// by which rule alignment is lost, at a frame
+pub fn by_rule(frame: usize) -> &'static str {
+    if frame % 2 == 0 {
+        ", by words"
+    } else {
+        ", by bits 2"
+    }
+}
+
 // the frame of the loss, or no
-fn lost<W: Write + Drop>(pen: Pen<W>, frame: usize) -> Pen<W> {
-    if frame == 0 {
-        return pen.text(b"<tspan x='448'>no</tspan>\n");
-    }
-    pen.fill(b"<tspan x='448'>%</tspan>\n", &[frame])
-}
-
-// by which rule it is lost, if it is
-pub fn by_rule<W: Write + Drop>(pen: Pen<W>, cause: u64) -> Pen<W> {
-    match cause {
-        0 => pen,
-        1 => pen.text(b", by words"),
-        _ => pen.text(b", by bits 2"),
+fn lost<W: Write>(to: &mut W, loss: Option<usize>) -> Result<()> {
+    match loss {
+        None => write!(to, "<tspan x='448'>no</tspan>\n"),
+        Some(frame) => write!(to, "<tspan x='448'>{frame}</tspan>\n"),
     }
 }
 
-pub fn report<W: Write + Drop>(pen: Pen<W>, r: Reading) -> Pen<W> {
-    let pen = tiles(pen).fill(
-        b"<tspan x='34'>%</tspan><tspan x='137.5'>%</tspan><tspan x='241'>%</tspan><tspan x='344.5'>%</tspan>",
-        &[r.place, r.start, r.whole, r.used],
-    );
-    let pen = lost(pen, r.lost).fill(
-        b"<tspan x='551.5'>%</tspan><tspan x='655'>%</tspan><tspan x='758.5'>%</tspan>
-<tspan x='862'>%</tspan><tspan x='965.5'>%</tspan>
+pub fn report<W: Write>(to: &mut W, r: Reading) -> Result<()> {
+    tiles(to)?;
+    write!(
+        to,
+        "<tspan x='34'>{}</tspan><tspan x='137.5'>{}</tspan><tspan x='241'>{}</tspan><tspan x='344.5'>{}</tspan>",
+        r.place, r.start, r.whole, r.used
+    )?;
+    lost(to, r.loss)?;
+    write!(
+        to,
+        "<tspan x='551.5'>{}</tspan><tspan x='655'>{}</tspan><tspan x='758.5'>{}</tspan>
+<tspan x='862'>{}</tspan><tspan x='965.5'>{}</tspan>
 </text>\n",
-        &[r.words, r.wordbits, r.compared, r.errored, r.farend],
-    );
-    let pen = pen.text(b"<text class='note' x='448' y='64'>frame");
-    by_rule(pen, r.cause).text(b"</text></g>\n")
+        r.words, r.wordbits, r.compared, r.errored, r.farend
+    )?;
+    let rule = r.loss.map_or("", by_rule);
+    write!(
+        to,
+        "<text class='note' x='448' y='64'>frame{rule}</text></g>\n"
+    )
 }

@@ -5,9 +5,8 @@ ghost use Rattle.drawing.specs.Shown.{Shown};
 use crate::asked;
 use crate::asked::Asked;
 use crate::report::by_rule;
-use pen::Pen;
 use read::Reading;
-use std::io::Write;
+use std::io::{Result, Write};
 
 // how far along the bar a place of a line of so many octets stands
 pub fn along(octets: usize, place: usize) -> usize
@@ -18,80 +17,83 @@ pub fn along(octets: usize, place: usize) -> usize
 }
 
 // a multiframe of the bar
-fn multiframe<W: Write + Drop>(
-    pen: Pen<W>,
-    x: usize,
-    width: usize,
-    m: usize,
-    is_used: bool,
-) -> Pen<W>
+fn multiframe<W: Write>(to: &mut W, x: usize, width: usize, m: usize, is_used: bool) -> Result<()>
     requires { (x < 4294967296) × (width < 4294967296) }
 {
-    pen.fill(
-        b"<g class='cell used%'><rect x='%' width='%' height='24'/><text x='%' y='16'>%</text></g>\n",
-        &[is_used as usize, x, width, x + width / 2, m],
+    let used = is_used as u8;
+    let middle = x + width / 2;
+    write!(
+        to,
+        "<g class='cell used{used}'><rect x='{x}' width='{width}' height='24'/><text x='{middle}' y='16'>{m}</text></g>\n"
     )
 }
 
-fn multiframes<W: Write + Drop>(pen: Pen<W>, octets: usize, r: Reading) -> Pen<W>
+fn multiframes<W: Write>(to: &mut W, octets: usize, r: Reading) -> Result<()>
     requires { Shown octets r }
 {
-    let start = r.start;
     let width = along(octets, 4096);
-    let mut pen = pen;
     for m in 0..r.whole {
-        let x = along(octets, start + 4096 * m);
-        pen = multiframe(pen, x, width, m, m < r.used);
+        let x = along(octets, r.start + 4096 * m);
+        multiframe(to, x, width, m, m < r.used)?;
     }
-    pen
+    Ok(())
 }
 
 // opens words beside a mark at x along the bar, y below its top, on the side that has the room
-pub fn beside<W: Write + Drop>(pen: Pen<W>, x: usize, y: usize) -> Pen<W> {
+pub fn beside<W: Write>(to: &mut W, x: usize, y: usize) -> Result<()> {
     if x < 516 {
-        return pen.fill(b"<text class='label' x='%' y='%' dx='4'>", &[x, y]);
+        return write!(to, "<text class='label' x='{x}' y='{y}' dx='4'>");
     }
-    pen.fill(
-        b"<text class='label' x='%' y='%' dx='-4' text-anchor='end'>",
-        &[x, y],
+    write!(
+        to,
+        "<text class='label' x='{x}' y='{y}' dx='-4' text-anchor='end'>"
     )
 }
 
 // where alignment is lost, if it is, and by which rule
-fn loss<W: Write + Drop>(pen: Pen<W>, octets: usize, r: Reading) -> Pen<W>
+fn loss<W: Write>(to: &mut W, octets: usize, r: Reading) -> Result<()>
     requires { Shown octets r }
 {
-    if r.lost == 0 {
-        return pen;
-    }
-    let x = along(octets, r.start + 4096 * r.used + 256 * (r.lost % 16));
-    let pen = beside(pen.fill(b"<path d='M% 0V54'/>", &[x]), x, 54);
-    by_rule(pen.fill(b"lost: frame %", &[r.lost]), r.cause).text(b"</text>\n")
+    let Some(frame) = r.loss else {
+        return Ok(());
+    };
+    let x = along(octets, r.start + 4096 * r.used + 256 * (frame % 16));
+    let rule = by_rule(frame);
+    write!(to, "<path d='M{x} 0V54'/>")?;
+    beside(to, x, 54)?;
+    write!(to, "lost: frame {frame}{rule}</text>\n")
 }
 
 // where alignment is found, and the first bit of a multiframe
-fn found<W: Write + Drop>(pen: Pen<W>, octets: usize, r: Reading) -> Pen<W>
+fn found<W: Write>(to: &mut W, octets: usize, r: Reading) -> Result<()>
     requires { Shown octets r }
 {
-    let x = along(octets, r.place);
-    let pen = pen.fill(
-        b"<path d='M% 24V-14'/><text class='label' x='%' y='-6' dx='4'>found: place %</text>\n",
-        &[x, x, r.place],
-    );
-    let x = along(octets, r.start);
-    pen.fill(
-        b"<path d='M% 0V38'/><text class='label' x='%' y='38' dx='4'>first multiframe: start %</text>\n",
-        &[x, x, r.start],
+    let place = r.place;
+    let start = r.start;
+    let x = along(octets, place);
+    write!(
+        to,
+        "<path d='M{x} 24V-14'/><text class='label' x='{x}' y='-6' dx='4'>found: place {place}</text>\n"
+    )?;
+    let x = along(octets, start);
+    write!(
+        to,
+        "<path d='M{x} 0V38'/><text class='label' x='{x}' y='38' dx='4'>first multiframe: start {start}</text>\n"
     )
 }
 
 // the marks that reach down furthest come first, so that the words of the others lie over them
-pub fn ruler<W: Write + Drop>(pen: Pen<W>, octets: usize, r: Reading, a: Asked) -> Pen<W>
+pub fn ruler<W: Write>(to: &mut W, octets: usize, r: Reading, asked: Option<Asked>) -> Result<()>
     requires { Shown octets r }
 {
-    let pen = pen.text(
+    to.write_all(
         b"<g transform='translate(24 168)'><rect class='rest' width='1032' height='24'/>\n",
-    );
-    let pen = asked::marked(multiframes(pen, octets, r), octets, a);
-    found(loss(pen, octets, r), octets, r).text(b"</g>\n")
+    )?;
+    multiframes(to, octets, r)?;
+    if let Some(asked) = asked {
+        asked::marked(to, octets, asked)?;
+    }
+    loss(to, octets, r)?;
+    found(to, octets, r)?;
+    to.write_all(b"</g>\n")
 }

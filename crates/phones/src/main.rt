@@ -2,100 +2,79 @@
 // change. With `--table`, before the file, it prints all of them.
 #![tactic(auto)]
 
-ghost use Rattle.std.specs.Prelude.{◌<◌};
+ghost use Rattle.std.specs.Prelude.{◌≤◌};
 
-use printed::{Change, print_bits, print_change, print_values};
-use program::text::{limited, write_line};
-use program::{Printed, print, print_line, print_number};
+use printed::{Change, Values};
+use program::{Kind, Printed, Program};
 use signals::Signalling;
 
-// the numbers of the channels, ten to a row
-const HEADS: [u8; 204] = *b"\
-    channel     1     2     3     4     5     6     7     8     9    10\n\
-    channel    11    12    13    14    15    16    17    18    19    20\n\
-    channel    21    22    23    24    25    26    27    28    29    30\n";
+const PHONES: Program<'static> = Program {
+    name: "phones",
+    kind: Kind::E1,
+};
 
-// Channel c, counted from 0, in the m-th that is read. The first has none before it, and changes nothing.
-fn heard(abcd: &[u8; 450], m: usize, c: usize) -> Change
-    requires { (m < 15) × (c < 30) }
+// the channels of a signalling multiframe, and those of the one before it
+#[derive(Clone, Copy)]
+struct Rows<'a> {
+    was: &'a [u8],
+    is: &'a [u8],
+}
+
+// those that change
+fn print_changes(rt: &impl Print, rows: Rows, f: usize) -> Printed {
+    for (c, (was, is)) in rows.was.iter().zip(rows.is).enumerate() {
+        let change = Change { was: *was, is: *is };
+        change.print(rt, f, c + 1)?;
+    }
+    Ok(())
+}
+
+// ten channels from c on, counted from 0: their numbers, and their bits below, a star before them where they change
+fn print_ten(rt: &impl Print, rows: Rows, c: usize) -> Printed
+    requires { c ≤ 20 }
 {
-    let i = 30 * m + c;
-    let is = abcd[i];
-    if i < 30 {
-        return Change { was: is, is: is };
+    print!(rt; "channel")?;
+    for k in 1..11 {
+        print!(rt; "{:>6}", c + k)?;
     }
-    Change {
-        was: abcd[i - 30],
-        is: is,
+    print!(rt; "\nABCD   ")?;
+    for (was, is) in rows.was.iter().zip(rows.is).skip(c).take(10) {
+        let star = if was == is { ' ' } else { '*' };
+        print!(rt; " {star}{is:04b}")?;
     }
+    print!(rt; "\n")
 }
 
-fn print_changes(rt: &impl Print, abcd: &[u8; 450], m: usize, f: usize) -> Printed
-    requires { m < 15 }
-{
-    let mut ok = Ok(());
-    for c in 0..30 {
-        ok = ok.and(print_change(rt, f, c + 1, heard(abcd, m, c)));
-    }
-    ok
+fn print_channels(rt: &impl Print, rows: Rows, f: usize) -> Printed {
+    println!(rt; "2 ms {}  frame {f}", f / 16)?;
+    print_ten(rt, rows, 0)?;
+    print_ten(rt, rows, 10)?;
+    print_ten(rt, rows, 20)?;
+    print!(rt; "\n")
 }
 
-// the bits of a channel in a column of six, a star before them where they change
-fn print_cell(rt: &impl Print, h: Change) -> Printed {
-    if h.was == h.is {
-        return print_bits(rt, b"  ", h.is);
-    }
-    print_bits(rt, b" *", h.is)
-}
-
-// ten channels, the k-th ten from 0: their numbers, and their bits below
-fn print_ten(rt: &impl Print, abcd: &[u8; 450], m: usize, k: usize) -> Printed
-    requires { (m < 15) × (k < 3) }
-{
-    let mut ok = write_line(rt, &HEADS, k as u64).and(print(rt, b"\nABCD   "));
-    for c in 10 * k..10 * k + 10 {
-        ok = ok.and(print_cell(rt, heard(abcd, m, c)));
-    }
-    ok.and(print(rt, b"\n"))
-}
-
-fn print_channels(rt: &impl Print, abcd: &[u8; 450], m: usize, f: usize) -> Printed
-    requires { m < 15 }
-{
-    print_number(rt, b"2 ms ", (f / 16) as u64)
-        .and(print_line(rt, b"  frame ", f))
-        .and(print_ten(rt, abcd, m, 0))
-        .and(print_ten(rt, abcd, m, 1))
-        .and(print_ten(rt, abcd, m, 2))
-        .and(print(rt, b"\n"))
-}
-
-// the signalling multiframes that are read, no more than 15
-fn print_abcd(rt: &impl Print, abcd: &[u8; 450], s: Signalling, is_table: bool) -> Printed {
-    let starts = s.starts;
-    let mut ok = Ok(());
-    for m in 0..limited(s.multiframes as u64, 15) {
+// The signalling multiframes that are read, no more than 15. The first has none before it, and changes nothing.
+fn print_abcd(rt: &impl Print, abcd: &[u8; 450], s: &Signalling, is_table: bool) -> Printed {
+    let mut was = &abcd[..30];
+    for (is, f) in abcd.chunks(30).zip(&s.starts).take(s.multiframes) {
+        let rows = Rows { was, is };
         if is_table {
-            ok = ok.and(print_channels(rt, abcd, m, starts[m]));
+            print_channels(rt, rows, *f)?;
         } else {
-            ok = ok.and(print_changes(rt, abcd, m, starts[m]));
+            print_changes(rt, rows, *f)?;
         }
+        was = is;
     }
-    ok
+    print!(rt; "{}", Values(*s))
 }
 
 // what the telephones say, or the refusal: its number is printed, and said in words on standard error
 fn phones(rt: &impl Print, image: &[u8], is_table: bool) {
     let mut abcd = [0u8; 450];
-    let s = signals::signals(image, &mut abcd);
-    if s.number == 0 {
-        program::written(
-            b"phones",
-            print_abcd(rt, &abcd, s, is_table).and(print_values(rt, s)),
-        );
-        return;
+    match signals::signals(image, &mut abcd) {
+        Ok(s) => PHONES.written(print_abcd(rt, &abcd, &s, is_table)),
+        Err(why) => PHONES.answer_refused(rt, why),
     }
-    program::answer_refused(rt, b"phones", s.number);
 }
 
 // No line over 8,192 octets is read, so one octet more is enough to know that it is longer.
@@ -103,9 +82,7 @@ fn main(rt: HostRuntime) {
     let is_table = program::is_first(&rt, b"--table");
     let at = if is_table { 2 } else { 1 };
     let mut image = [0u8; 8193];
-    let taken = program::read(&rt, b"phones", at, &mut image);
-    if taken.ok {
-        let n = taken.n;
+    if let Some(n) = PHONES.read(&rt, at, &mut image) {
         phones(&rt, &image[..n], is_table);
     }
 }
