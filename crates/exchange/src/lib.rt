@@ -57,6 +57,7 @@ impl Request {
     }
 }
 
+#[tactic(auto, unfolding(crate::specs::Machine::between))]
 fn is_slot(a: u8) -> bool
     ensures { result ≡ between 1 a 31 }
 {
@@ -173,6 +174,7 @@ impl State {
             return Err(Refused::NoRoom);
         }
         let map = entries(&self.live);
+        // kept: by index: a proof does not know what is left in a slice under `chunks_exact_mut` (tried)
         for f in 0..n / 31 {
             let at = 31 * f;
             map_frame(&map, &payload[at..at + 31], &mut out[at..at + 31]);
