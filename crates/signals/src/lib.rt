@@ -70,6 +70,7 @@ fn signal_at(t: &[u8], f: usize) -> bool
 }
 
 // alignment can be taken at frame f
+#[tactic(auto, unfolding(crate::specs::Signalling::aligns), using(crate::proofs::Laws::aligns_later))]
 fn aligns(t: &[u8], f: usize) -> bool
     requires { f < length t.now }
     ensures { result ≡ aligns t.now f }
@@ -81,6 +82,7 @@ fn aligns(t: &[u8], f: usize) -> bool
 }
 
 // a signalling multiframe begins with frame f
+#[tactic(auto, unfolding(crate::specs::Follow::begins))]
 fn begins(t: &[u8], f: usize, held: bool, wrong: bool) -> bool
     requires { f < length t.now }
     ensures { result ≡ begins t.now f held wrong }
