@@ -37,6 +37,7 @@ enum Request {
 
 impl Request {
     // a record: kind, a, b, host number
+    #[tactic(auto, unfolding(crate::specs::Machine::between, crate::specs::Machine::outside))]
     fn parse(octets: &[u8]) -> Result<Request, Refused>
         ensures { Parsed octets.now result }
     {
@@ -80,21 +81,16 @@ impl State {
     }
 
     // a reading needs nothing, the others the flag, and a commit and a drop a staged map
+    #[tactic(auto, unfolding(crate::specs::Machine::locked, crate::specs::Machine::unstaged))]
     fn permit(&self, request: Request) -> Result<(), Refused>
         ensures { number_in result ≡ state_refusal self.now (request_kind request) }
     {
-        let is_staged = match request {
-            Request::Read { .. } => return Ok(()),
-            Request::Stage { .. } => true,
-            Request::Commit | Request::Drop => self.staging,
-        };
-        if !self.flag {
-            return Err(Refused::Locked);
+        match request {
+            Request::Read { .. } => Ok(()),
+            _ if !self.flag => Err(Refused::Locked),
+            Request::Commit | Request::Drop if !self.staging => Err(Refused::NothingStaged),
+            _ => Ok(()),
         }
-        if !is_staged {
-            return Err(Refused::NothingStaged);
-        }
-        Ok(())
     }
 
     // staged entry a is b; where nothing is staged, a copy of the live map is staged first
@@ -136,6 +132,7 @@ impl State {
     }
 
     // the key, to a position
+    #[tactic(auto, unfolding(crate::specs::Machine::key_refusal))]
     pub fn key(&mut self, position: u64) -> Result<(), Refused>
         ensures { told self.new result ≡ keyed self.old position }
     {
