@@ -1,127 +1,71 @@
-// The calls on a stream that steps make, each with the line that it prints.
-use crate::calls::{BEFORE, head, show_values};
-use crate::print::{digest, print, print_number};
+// The calls on a stream, each with the line that it prints.
+use crate::lines::{BEFORE, number_of, show_values};
+use crate::teller::Teller;
+use base::Refused;
 use given::Bench;
+use given::step::Numbers;
 use program::text::limited;
-use stream::{Fed, Stream};
+use stream::Stream;
 
-// The steps that call, by their lines in `given::STEPS`.
-pub const STREAM: usize = 30;
-
-const FEED: usize = 31;
-
-const FEEDS: usize = 32;
-
-const END: usize = 33;
-
-fn feed_into(
-    rt: &impl Print,
-    label: &[u8],
-    step: &[u8],
-    s: Stream,
-    window: &mut [u8; 2048],
-    chunk: &[u8],
-    payload: &mut [u8],
-    slot0: &mut [u8],
-) -> Stream {
-    let f = stream::feed(s, window, chunk, payload, slot0);
-    head(rt, label, step, f.number);
-    print_number(rt, b" multiframes ", f.multiframes as u64);
-    digest(rt, b" payload ", payload);
-    digest(rt, b" slot0 ", slot0);
-    print(rt, b"\n");
-    f.stream
+// the octets of the image from one number to another
+fn part(bench: &Bench, from: u64, to: u64) -> &[u8] {
+    let to = limited(to, 8193);
+    &bench.image[limited(from, to)..to]
 }
 
-// octets of the image
-fn feed(
-    rt: &impl Print,
-    label: &[u8],
-    step: &[u8],
-    s: Stream,
+// octets of the image come
+pub fn feed<P: Print>(
+    t: &Teller<'_, P>,
+    s: &mut Stream,
     window: &mut [u8; 2048],
-    image: [u8; 8193],
-    bench: Bench,
-    row: &[u64; 8],
-) -> Stream {
-    let to = limited(row[1], 8193);
-    let from = limited(row[0], to);
-    let p = limited(bench.payload_room, 7936);
-    let z = limited(bench.slot0_room, 256);
+    bench: &Bench,
+    numbers: &Numbers,
+) {
     let mut payload = [BEFORE; 7936];
     let mut slot0 = [BEFORE; 256];
-    feed_into(
-        rt,
-        label,
-        step,
-        s,
-        window,
-        &image[from..to],
-        &mut payload[0..p],
-        &mut slot0[0..z],
-    )
+    let payload = &mut payload[..limited(bench.payload_room, 7936)];
+    let slot0 = &mut slot0[..limited(bench.slot0_room, 256)];
+    let chunk = part(bench, numbers.at(0), numbers.at(1));
+    let left = s.feed(window, chunk, payload, slot0);
+    t.called(number_of(&left));
+    t.count(b" multiframes ", left.unwrap_or(0));
+    t.digest(b" payload ", payload);
+    t.digest(b" slot0 ", slot0);
+    t.end();
 }
 
 // into outputs that nobody looks at
-fn feed_once(s: Stream, window: &mut [u8; 2048], chunk: &[u8]) -> Fed {
+fn feed_once(s: &mut Stream, window: &mut [u8; 2048], chunk: &[u8]) -> Result<usize, Refused> {
     let mut payload = [BEFORE; 9920];
     let mut slot0 = [BEFORE; 320];
-    stream::feed(s, window, chunk, &mut payload, &mut slot0)
+    s.feed(window, chunk, &mut payload, &mut slot0)
 }
 
 // the same octets so many times: the last number, and how many multiframes left in all
-fn feeds(
-    rt: &impl Print,
-    label: &[u8],
-    step: &[u8],
-    s: Stream,
+pub fn feeds<P: Print>(
+    t: &Teller<'_, P>,
+    s: &mut Stream,
     window: &mut [u8; 2048],
-    image: [u8; 8193],
-    row: &[u64; 8],
-) -> Stream {
-    let n = limited(row[0], 2048);
-    let to = limited(row[2], 8193);
-    let from = limited(row[1], to);
-    let mut s = s;
+    bench: &Bench,
+    numbers: &Numbers,
+) {
+    let chunk = part(bench, numbers.at(1), numbers.at(2));
     let mut number = 0;
-    let mut left = 0;
-    for i in 0..n {
-        let f = feed_once(s, window, &image[from..to]);
-        s = f.stream;
-        number = f.number;
-        left += limited(f.multiframes as u64, 20);
+    let mut left: usize = 0;
+    for _time in 0..limited(numbers.at(0), 2048) {
+        let fed = feed_once(s, window, chunk);
+        number = number_of(&fed);
+        left = left.saturating_add(fed.unwrap_or(0));
     }
-    head(rt, label, step, number);
-    print_number(rt, b" multiframes ", left as u64);
-    print(rt, b"\n");
-    s
+    t.called(number);
+    t.count(b" multiframes ", left);
+    t.end();
 }
 
-fn end(rt: &impl Print, label: &[u8], step: &[u8], s: Stream) -> Stream {
-    let e = stream::end(s);
-    head(rt, label, step, e.reading.number);
-    show_values(rt, e.reading);
-    print(rt, b"\n");
-    e.stream
-}
-
-// the stream that a step leaves, by its line in the table and by the numbers of a row
-pub fn call(
-    rt: &impl Print,
-    label: &[u8],
-    step: &[u8],
-    bench: Bench,
-    s: Stream,
-    window: &mut [u8; 2048],
-    k: usize,
-    row: &[u64; 8],
-) -> Stream {
-    let image = bench.image;
-    match k {
-        STREAM => stream::start(),
-        FEED => feed(rt, label, step, s, window, image, bench, row),
-        FEEDS => feeds(rt, label, step, s, window, image, row),
-        END => end(rt, label, step, s),
-        _ => s,
-    }
+// the line ends
+pub fn end<P: Print>(t: &Teller<'_, P>, s: &mut Stream) {
+    let read = s.end();
+    t.called(number_of(&read));
+    show_values(t, read);
+    t.end();
 }

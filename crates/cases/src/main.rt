@@ -3,41 +3,27 @@
 // a step makes prints a line.
 #![tactic(auto)]
 
-mod calls;
 mod chunks;
 mod hits;
-mod print;
+mod lines;
+mod machine;
 mod superframes;
-
-ghost use Rattle.std.specs.Prelude.{◌≤◌};
+mod teller;
 
 use exchange::State;
 use given::Bench;
-use program::text;
+use given::step::{Numbers, Step};
+use program::text::{first_word, numbers};
+use program::{Kind, Program};
 use stream::Stream;
+use teller::Teller;
 
-// a step: its line in the table, and how many numbers are behind it
-#[derive(Drop)]
-struct Step {
-    k: usize,
-    n: usize,
-}
-
-// A step with a word that is no number, or with more than eight, is no step of the table.
-fn parsed(s: &[u8], row: &mut [u64; 8]) -> Step
-    ensures { result.n ≤ 8 }
-{
-    let a = text::skip(s, 0, true);
-    let e = text::skip(s, a, false);
-    let n = text::numbers(&s[e..], row);
-    if n > 8 {
-        return Step {
-            k: given::UNKNOWN,
-            n: 0,
-        };
-    }
-    let k = text::line_of(&given::STEPS, &s[a..e]);
-    Step { k: k, n: n }
+// A step, and the numbers behind it; none, with a word that is no step or no number, or with more than eight.
+fn parsed(s: &[u8]) -> Option<(Step, Numbers)> {
+    let (word, behind) = first_word(s);
+    let mut row = [0; 8];
+    let n = numbers(behind, &mut row)?;
+    Some((Step::of(word)?, Numbers::of(row, n)))
 }
 
 // what goes on from case to case, unless it is started anew
@@ -45,78 +31,91 @@ fn parsed(s: &[u8], row: &mut [u64; 8]) -> Step
 struct Kept {
     state: State,
     stream: Stream,
+    window: [u8; 2048],
 }
 
-// a step is a call on the state, on the stream, of T1, one of two hits, or none
-fn called(
-    rt: &impl Print,
-    label: &[u8],
-    words: &[u8],
-    bench: Bench,
-    kept: Kept,
-    window: &mut [u8; 2048],
+// what a step makes or calls
+fn take<P: Print>(
+    t: &Teller<'_, P>,
+    bench: &mut Bench,
+    kept: &mut Kept,
     step: Step,
-    row: &[u64; 8],
-) -> Kept {
-    let state = calls::call(rt, label, words, bench, kept.state, step.k, row, step.n);
-    let stream = chunks::call(rt, label, words, bench, kept.stream, window, step.k, row);
-    superframes::call(rt, label, bench, step.k, row);
-    hits::call(rt, label, bench, step.k, row);
-    Kept {
-        state: state,
-        stream: stream,
+    numbers: &Numbers,
+) {
+    match step {
+        Step::Read => lines::read(t, bench),
+        Step::Why => lines::why(t, bench, numbers.at(0)),
+        Step::Signals => lines::signals(t, bench, numbers.at(0)),
+        Step::Write => lines::write(t, bench, numbers),
+        Step::WriteSignalled => lines::write_signalled(t, bench, numbers),
+        Step::Row => lines::write_two(t, bench),
+        Step::Start => kept.state = State::start(),
+        Step::Host => machine::host(t, &mut kept.state, numbers),
+        Step::Key => machine::tell(t, kept.state.key(numbers.at(0))),
+        Step::Boundary => {
+            kept.state.boundary();
+            machine::tell(t, Ok(()));
+        }
+        Step::Map => machine::map(t, &kept.state, bench, numbers),
+        Step::Stream => kept.stream = Stream::start(),
+        Step::Feed => chunks::feed(t, &mut kept.stream, &mut kept.window, bench, numbers),
+        Step::Feeds => chunks::feeds(t, &mut kept.stream, &mut kept.window, bench, numbers),
+        Step::End => chunks::end(t, &mut kept.stream),
+        Step::T1Read => superframes::read(t, bench, numbers),
+        Step::T1Write => superframes::write(t, bench, numbers),
+        Step::T1WriteSignalled => superframes::write_signalled(t, bench, numbers),
+        Step::TwoHits => hits::show(t, bench, false, numbers),
+        Step::T1TwoHits => hits::show(t, bench, true, numbers),
+        _ => bench.make(step, numbers),
     }
 }
 
 // Each case has a bench of its own.
-fn case(rt: &impl Print, line: &[u8], kept: Kept, window: &mut [u8; 2048]) -> Kept {
-    let c = text::until(line, 0, b':');
-    let mut bench = given::new();
-    let mut kept = kept;
-    let mut at = c + 1;
-    while at < line.len() {
-        let from = at;
-        let e = text::until(line, from, b';');
-        at = e + 1;
-        let mut row = [0; 8];
-        let step = parsed(&line[from..e], &mut row);
-        bench = bench.made(step.k, &row, step.n);
-        kept = called(
+fn case(rt: &impl Print, line: &[u8], kept: &mut Kept) {
+    let c = line.iter().position(|x| *x == b':').unwrap_or(line.len());
+    let mut bench = Bench::new();
+    let steps = line.get(c + 1..).unwrap_or(&[]);
+    for step in steps.split_inclusive(|x| *x == b';') {
+        let s = step.strip_suffix(b";").unwrap_or(step);
+        let t = Teller {
             rt,
-            &line[0..c],
-            &line[from..e],
-            bench,
-            kept,
-            window,
-            step,
-            &row,
-        );
+            label: &line[..c],
+            step: s,
+        };
+        match parsed(s) {
+            Some((step, numbers)) => take(&t, &mut bench, kept, step, &numbers),
+            None => {
+                t.print(t.label);
+                t.print(b": not understood:");
+                t.print(s);
+                t.end();
+            }
+        }
     }
-    kept
 }
 
 // A line that is empty or begins with # is a remark: it has no steps.
 fn cases(rt: &impl Print, s: &[u8]) {
     let mut kept = Kept {
-        state: exchange::start(),
-        stream: stream::start(),
+        state: State::start(),
+        stream: Stream::start(),
+        window: [0; 2048],
     };
-    let mut window = [0; 2048];
-    let mut at = 0;
-    while at < s.len() {
-        let e = text::until(s, at, b'\n');
-        if s[at] != b'#' {
-            kept = case(rt, &s[at..e], kept, &mut window);
+    for line in s.split(|x| *x == b'\n') {
+        if line.first().is_some_and(|x| *x != b'#') {
+            case(rt, line, &mut kept);
         }
-        at = e + 1;
     }
 }
 
+const CASES: Program = Program {
+    name: "cases",
+    kind: Kind::E1,
+};
+
 fn main(rt: HostRuntime) {
     let mut room = io::large_buffer();
-    let taken = program::read(&rt, b"cases", 1, &mut room);
-    if taken.ok {
-        let n = taken.n;
+    if let Some(n) = CASES.read(&rt, 1, &mut room) {
         cases(&rt, &room[..n]);
     }
 }

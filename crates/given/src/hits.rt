@@ -1,5 +1,5 @@
 // Lines of random octets, of which two data bits of one block are hit.
-ghost use Rattle.std.specs.Prelude.{◌<◌, ◌≤◌};
+ghost use Rattle.std.specs.Prelude.{◌<◌, ◌≤◌, IfSome};
 
 use crate::{Bench, turn_over};
 
@@ -22,12 +22,17 @@ fn below(x: u64, e: usize) -> usize
 // which each d-th is no data bit.
 pub fn first_bit(n: usize, d: usize, m: usize, number: u64) -> Option<usize>
     requires { (m < n) × (n ≤ 4632) × (0 < d) }
+    ensures { IfSome result (λ i. i < n) }
 {
     let e = n - m;
     let r = below(number, e);
-    (0..e)
-        .map(|t| below((r + t) as u64, e))
-        .find(|i| (*i % d != 0) & ((*i + m) % d != 0))
+    for t in 0..e {
+        let i = below((r + t) as u64, e);
+        if (i % d != 0) & ((i + m) % d != 0) {
+            return Some(i);
+        }
+    }
+    None
 }
 
 impl Bench {
