@@ -3,7 +3,6 @@ use Prim.Native.Nat.{ℕ, zero, suc, ◌+◌, ◌-◌, ◌*◌, ◌/◌, ◌%◌
 use mathlib.Core.Path.{◌≡◌, refl, sym, ap, ap₂, ◌∙◌, subst}
 use mathlib.Core.List.{List}
 use native.Mathlib.Nat.{add-zero, add_assoc, add-mul, zero-mul, mul-zero, mul_assoc, mul-add-div_right, div-eq_of_lt, mod-eq_of_lt}
-use native.Mathlib.Numerals.{add-one}
 use native.Mathlib.Omega.{arith}
 use lib.Bits.{bit_xor, bit_or, bit_and, and_mask, xor_lt, xor_shr, xor_mod, xor_block, xor_shifted}
 use lib.Dec.{lit≤}
@@ -45,10 +44,6 @@ module _ (w : ℕ) (wide : 2 ≤ w) (p : ℕ) (order : Order w p) (n : ℕ) (mul
       ∙ ap₂ (after w) (fold_rows f g h k) (h k)
       ∙ digits_on (after w 0 (digits n (xors k g))) (g k) (after_lt w wide 0 (digits n (xors k g)) (pow_pos w) (digits_bits n (xors k g)))
       ∙ sym (digits_linear w wide 0 0 n (xors k g) (g k) (pow_pos w) (pow_pos w))
-
-pub xors_more : (n : ℕ) (f : ℕ → ℕ) → xors (n + 1) f ≡ bit_xor (xors n f) (f n)
-unfolding xors
-xors_more n f = rw add-one
 
 pub xors_ext : (n : ℕ) (f g : ℕ → ℕ) → ((i : ℕ) → f i ≡ g i) → xors n f ≡ xors n g
 unfolding xors

@@ -14,11 +14,7 @@ pub fn windows(s: &[u8], i: usize, n: usize, d: usize) -> u64
     requires { i + d * n + 8 ≤ length s.now + d }
     ensures { result ≡ xors n (λ k. field s.now (8 * (i + d * k)) 64) }
 {
-    let mut x: u64 = 0;
-    for k in 0..n {
-        x = x ^ line::window(s, i + d * k);
-    }
-    x
+    (0..n).fold(0, |x, k| x ^ line::window(s, i + d * k))
 }
 
 // the 120 lowest digits of two words, folded to 15; what stands above these is no matter

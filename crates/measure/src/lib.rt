@@ -29,43 +29,41 @@ struct Tracking {
     wordbits: usize,
 }
 
-// an even frame goes by, with so many wrong bits in its word
-fn after_word(t: Tracking, wrong: u32) -> Tracking
-    requires { (t.wordrun < 3) × (t.bit2run < 3) × (t.words < 2 ^ 60) × (t.wordbits < 2 ^ 60) × (wrong ≤ 7) }
-    ensures { (result.wordrun ≡ (if eqb wrong 0 then 0 else t.wordrun + 1))
-        × (result.bit2run ≡ t.bit2run)
-        × (result.words ≡ t.words + (if eqb wrong 0 then 0 else 1))
-        × (result.wordbits ≡ t.wordbits + wrong) }
-{
-    let mut next = t;
-    if wrong == 0 {
-        next.wordrun = 0;
-        return next;
+impl Tracking {
+    // an even frame goes by, with so many wrong bits in its word
+    fn after_word(self, wrong: u32) -> Tracking
+        requires { (self.wordrun < 3) × (self.bit2run < 3) × (self.words < 2 ^ 60) × (self.wordbits < 2 ^ 60) × (wrong ≤ 7) }
+        ensures { (result.wordrun ≡ (if eqb wrong 0 then 0 else self.wordrun + 1))
+            × (result.bit2run ≡ self.bit2run)
+            × (result.words ≡ self.words + (if eqb wrong 0 then 0 else 1))
+            × (result.wordbits ≡ self.wordbits + wrong) }
+    {
+        if wrong == 0 {
+            return Tracking { wordrun: 0, ..self };
+        }
+        Tracking {
+            wordrun: self.wordrun + 1,
+            words: self.words + 1,
+            wordbits: self.wordbits + wrong as usize,
+            ..self
+        }
     }
-    next.wordrun = t.wordrun + 1;
-    next.words = t.words + 1;
-    next.wordbits = t.wordbits + wrong as usize;
-    next
-}
 
-// an odd frame goes by, with this bit 2; with `next` on both ways it compiles to three instructions more a frame
-fn after_bit2(t: Tracking, bit: u8) -> Tracking
-    requires { (t.wordrun < 3) × (t.bit2run < 3) }
-    ensures { (result.wordrun ≡ t.wordrun)
-        × (result.bit2run ≡ (if eqb bit 0 then t.bit2run + 1 else 0))
-        × (result.words ≡ t.words)
-        × (result.wordbits ≡ t.wordbits) }
-{
-    if bit != 0 {
-        let mut next = t;
-        next.bit2run = 0;
-        return next;
-    }
-    Tracking {
-        wordrun: t.wordrun,
-        bit2run: t.bit2run + 1,
-        words: t.words,
-        wordbits: t.wordbits,
+    // an odd frame goes by, with this bit 2
+    fn after_bit2(self, bit: u8) -> Tracking
+        requires { (self.wordrun < 3) × (self.bit2run < 3) }
+        ensures { (result.wordrun ≡ self.wordrun)
+            × (result.bit2run ≡ (if eqb bit 0 then self.bit2run + 1 else 0))
+            × (result.words ≡ self.words)
+            × (result.wordbits ≡ self.wordbits) }
+    {
+        if bit != 0 {
+            return Tracking { bit2run: 0, ..self };
+        }
+        Tracking {
+            bit2run: self.bit2run + 1,
+            ..self
+        }
     }
 }
 
@@ -89,7 +87,7 @@ fn after_multiframes(s: &[u8], q: usize, h: usize) -> Tracking
         } else {
             t.wordrun = t.wordrun + 1;
         }
-        t = after_bit2(t, line::bit(s, q + 256 * (2 * i + 1) + 1));
+        t = t.after_bit2(line::bit(s, q + 256 * (2 * i + 1) + 1));
     }
     t
 }
@@ -110,22 +108,22 @@ pub fn track(s: &[u8], q: usize, h: usize, m: usize) -> Tracked
     let mut wordbits: usize = 0;
     for g in h..m {
         for i in 8 * g..8 * g + 8 {
-            t = after_word(t, e1::wrong_bits(s, q + 256 * (2 * i)));
+            t = t.after_word(e1::wrong_bits(s, q + 256 * (2 * i)));
             if t.wordrun == 3 {
                 return Tracked {
                     loss: Some(2 * i),
                     used: g,
-                    words: words,
-                    wordbits: wordbits,
+                    words,
+                    wordbits,
                 };
             }
-            t = after_bit2(t, line::bit(s, q + 256 * (2 * i + 1) + 1));
+            t = t.after_bit2(line::bit(s, q + 256 * (2 * i + 1) + 1));
             if t.bit2run == 3 {
                 return Tracked {
                     loss: Some(2 * i + 1),
                     used: g,
-                    words: words,
-                    wordbits: wordbits,
+                    words,
+                    wordbits,
                 };
             }
         }
@@ -135,12 +133,12 @@ pub fn track(s: &[u8], q: usize, h: usize, m: usize) -> Tracked
     Tracked {
         loss: None,
         used: m,
-        words: words,
-        wordbits: wordbits,
+        words,
+        wordbits,
     }
 }
 
-// slots 1 to 31 of the frame at q: two runs, which share slot 16
+// slots 1 to 31 of the frame at q: two runs, which share slot 16; as two statements they take five times as long
 fn put_frame(s: &[u8], q: usize, out: &mut [u8])
     requires { Room s.now q 256 × (length out.old ≡ 31) }
     ensures { out.new ≡ slots s.now q 1 }
@@ -154,7 +152,8 @@ fn put_frame(s: &[u8], q: usize, out: &mut [u8])
     }
 }
 
-// the frames of the multiframe at q, each to its part of the output
+// the frames of the multiframe at q, each to its part of the output; by index here and below, as of what is written
+// through `chunks_exact_mut` or `iter_mut().enumerate()` a proof knows the length alone
 fn put_multiframe(s: &[u8], q: usize, out: &mut [u8])
     requires { Room s.now q 4096 × (length out.old ≡ 496) }
     ensures { out.new ≡ slots s.now q 16 }
@@ -194,10 +193,7 @@ pub fn compared(g: usize) -> usize
     requires { g < 2 ^ 60 }
     ensures { result ≡ compared g }
 {
-    if g == 0 {
-        return 0;
-    }
-    2 * g - 1
+    (2 * g).saturating_sub(1)
 }
 
 // the E bits of multiframe m that are 0
@@ -215,15 +211,11 @@ pub fn far_end(s: &[u8], q: usize, g: usize) -> usize
     requires { Room s.now q (4096 * g) }
     ensures { result ≡ far_end s.now q g }
 {
-    let mut zeros: usize = 0;
-    for m in 0..g {
-        zeros += zeros_e(s, q, m);
-    }
-    zeros
+    (0..g).map(|m| zeros_e(s, q, m)).sum()
 }
 
 // how many of n blocks from p on do not agree, by the table; each check is taken once, and what a block carries is read
-// once
+// once, where `filter(..).count()` over `e1::agrees` would read it twice
 pub fn judge_by(s: &[u8], p: usize, n: usize, table: &Remainders) -> usize
     requires { 1 ≤ n → Room s.now p (2048 * n + 2048) }
     ensures { result ≡ disagreeing s.now p n }
