@@ -154,6 +154,7 @@ fn next_hit(s: &[u8], i: usize, end: usize) -> Option<Hit>
     ensures { Hits s.now i end result }
 {
     let mut j = i;
+    // a `for` by `step_by` is no plainer: it needs its measure too, and divides at each call
     while j < end {
         for w in 0..4 {
             let octet = j + 7 * w;
@@ -175,7 +176,7 @@ fn marks(s: &[u8], i: usize) -> [u64; 32]
     std::array::from_fn(|k| line::eight_octets(s, i + 32 + 64 * k))
 }
 
-// where six marks are 0, 0, 1, 0, 1, 1
+// where six marks are 0, 0, 1, 0, 1, 1; given all marks and k, the search takes a 25th more instructions
 fn signal_in(a: u64, b: u64, c: u64, d: u64, e: u64, f: u64) -> u64
     ensures { SignalIn a b c d e f result }
 {
@@ -187,6 +188,7 @@ fn signals(m: &[u64; 32]) -> [u64; 43]
     ensures { Signals m.now 27 result }
 {
     let mut g = [0u64; 43];
+    // by `from_fn`, with a test of k, the search takes twice as many instructions
     for k in 0..27 {
         g[k] = signal_in(m[k], m[k + 1], m[k + 2], m[k + 3], m[k + 4], m[k + 5]);
     }
@@ -198,6 +200,7 @@ fn pairs(g: &[u64; 43]) -> u64
     ensures { Pairs g.now 19 result }
 {
     let mut r = 0;
+    // four octets of g at each k: a fold over k is no plainer
     for k in 0..19 {
         r |= g[k] & (g[k + 8] | g[k + 16] | g[k + 24]);
     }

@@ -1,5 +1,5 @@
 use Rattle.std.proofs.Common.{◌≡◌, ℕ, ◌<◌, ◌≤◌, List, Option, Some, None, true, false, sym, arith, rules, tests}
-use Rattle.std.proofs.lemmas.Iterator.{first_from_Range, serves_from_Range}
+use Rattle.std.proofs.lemmas.Iterator.{first_from_Range}
 use Rattle.std.specs.Option.{MatchOption}
 use Rattle.base.specs.Tab.{least}
 use Rattle.base.proofs.ChoiceLaws.{denies}

@@ -3,8 +3,7 @@ use mathlib.Core.Bool.{Bool}
 use mathlib.Core.List.{List}
 use native.Mathlib.Decide.{dec_lt}
 use native.Mathlib.Omega.{arith}
-use lib.Count.{count_leading_zeros, leading_le}
-use lib.ListN.{length}
+use lib.Count.{count_leading_zeros}
 use Rattle.align.specs.Stands.{Basic}
 use Rattle.align.specs.Window.{Holds, NoneFrom, Wanted}
 use Rattle.align.proofs.Laws.{wanted_basic}

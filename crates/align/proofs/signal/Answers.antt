@@ -1,11 +1,10 @@
-use Rattle.std.proofs.Common.{◌≡◌, ℕ, ◌+◌, ◌*◌, ◌/◌, ◌^◌, Bool, true, false, List, refl, ◌∙◌, rules, tests, arith}
-use Rattle.std.proofs.lemmas.Iterator.{YieldsList-from_range, serves_from_Range}
+use Rattle.std.proofs.Common.{◌≡◌, ℕ, ◌+◌, ◌/◌, ◌^◌, Bool, true, false, List, refl, ◌∙◌, rules, tests}
+use Rattle.std.proofs.lemmas.Iterator.{YieldsList-from_range}
 use Rattle.std.proofs.lemmas.Iterator.Search.{all_from_yields_List}
 use mathlib.Core.Bool.{◌&&◌}
 use lib.Bits.{bit_and}
 use lib.Dec.{eqb}
 use Rattle.base.specs.Tab.{all}
-use Rattle.line.specs.Bit.{bit_at}
 use Rattle.align.specs.Place.{mark, signal_at}
 use Rattle.align.proofs.signal.Goals as goal
 
