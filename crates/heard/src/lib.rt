@@ -38,6 +38,7 @@ impl Hearing {
     }
 
     // one frame more, behind which so many frames of a signalling multiframe have passed
+    #[tactic(auto, unfolding(crate::specs::Hearing::tallied))]
     fn tallied(self, octet: u8, passed: usize, wrong: bool) -> Hearing
         requires { Few self (2 ^ 40) }
         ensures { result ≡ tallied self octet passed wrong }
@@ -60,6 +61,7 @@ impl Hearing {
     }
 
     // One frame more is heard, its slot 16 this octet.
+    #[tactic(auto, unfolding(crate::specs::Hearing::after_frame, signals::specs::Signalling::step, signals::specs::Signalling::aligns))]
     pub fn hear(self, octet: u8) -> Hearing
         requires { Few self (2 ^ 40) }
         ensures { result ≡ after_frame self octet }
