@@ -5,3 +5,4 @@ pub mod StreamBack
 pub mod RunLaws
 pub mod StreamRuns
 pub mod Maps
+pub mod Places

@@ -13,7 +13,7 @@ use Rattle.base.specs.Answer.{accepted}
 use Rattle.base.specs.Tab.{tab_from}
 use Rattle.base.proofs.AnswerLaws.{accepted_not}
 use Rattle.exchange.specs.declared.State.{State}
-use Rattle.exchange.specs.declared.Answered.{Answered}
+use Rattle.exchange.specs.Answer.{Answered}
 use Rattle.exchange.specs.Machine.{start_state, hosted, keyed, crossed, kind_of, host_refusal}
 use Rattle.exchange.specs.Runs.{Call, host, key, boundary, mapping, after_call, answer, after_run, answers}
 use Rattle.exchange.proofs.Laws.{refused_record, refused_key, host_cases, key_cases, reading_keeps, reads_alone}

@@ -16,7 +16,7 @@ use Rattle.base.proofs.TabLaws.{get_d_tab}
 use Rattle.line.specs.Bit.{field}
 use Rattle.line.specs.Spelt.{spelt}
 use Rattle.line.proofs.BitLaws.{field_add, field_in, field_lt}
-use Rattle.align.specs.Place.{found_in, place_of, start_of}
+use Rattle.align.specs.Place.{found_in, place_of, k_of, start_of}
 use Rattle.align.specs.declared.Found.{Found}
 use Rattle.align.specs.declared.Found.TheVariants.{At, BasicAt, Nothing}
 use Rattle.align.proofs.Laws.{finds_basic}
@@ -27,7 +27,7 @@ use Rattle.stream.specs.Entry.{starting, is_large, is_far, is_over, grown_of, fe
 use Rattle.stream.specs.declared.Stream.{Stream}
 use Rattle.stream.proofs.EntryLaws.{sound}
 use Rattle.line.specs.Spelt.{spelt_octet}
-use Rattle.jikhvanto.specs.Stream.{number_at, found_by, stream_of, window_of, found_number, k_of, stream_numbers}
+use Rattle.jikhvanto.specs.Stream.{number_at, found_by, stream_of, window_of, found_number, stream_numbers}
 use Rattle.jikhvanto.specs.Stream.{spelt_numbers, octets_of_stream}
 use Rattle.jikhvanto.proofs.Laws.{flag_back}
 use Rattle.jikhvanto.proofs.StreamLaws.{number_from, spelt_at, spelt_length, window_behind}

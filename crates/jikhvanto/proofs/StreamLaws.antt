@@ -1,25 +1,28 @@
 -- A stream and its octets.
 use Prim.Native.Nat.{ℕ, ◌+◌, ◌-◌, ◌*◌, ◌/◌, ◌%◌, ◌≤◌}
-use mathlib.Core.Path.{◌≡◌, sym, ap, ap₂, subst, ◌∙◌}
+use mathlib.Core.Path.{◌≡◌, refl, sym, ap, ap₂, subst, ◌∙◌}
+use mathlib.Core.Bool.{true, false, true≢false}
 use mathlib.Core.List.{List, ◌++◌, append-nil}
 use native.Mathlib.Omega.{arith}
 use lib.ListN.{length, get_or, take, drop, length-take, length-drop, drop_of_length-le}
 use lib.Seq.{drop_at, take_all}
 use borrow.Rule.Slice.PartMut.{put_mid, put_same}
+use Rattle.std.specs.Prelude.{Result, Ok, Err, is_ok}
 use Rattle.base.specs.Tab.{tab}
+use Rattle.base.specs.Number.{number_in}
+use Rattle.base.specs.declared.Refused.{Refused}
+use Rattle.base.proofs.NumberLaws.{refusal_above_0}
 use Rattle.base.proofs.TabLaws.{length_tab, tab_agree}
 use Rattle.base.proofs.PartLaws.{part_more, part_rest, parts_kept}
 use Rattle.base.proofs.AnswerLaws.{accepted_so, accepted_not}
 use Rattle.line.specs.Bit.{field}
-use Rattle.stream.specs.Entry.{Feeds, ending}
-use Rattle.stream.specs.declared.Ended.{Ended}
-use Rattle.stream.specs.declared.Fed.{Fed}
+use Rattle.stream.specs.Entry.{Feeds}
+use Rattle.stream.specs.Answer.{Fed, fed_answer}
 use Rattle.stream.specs.declared.Stream.{Stream}
 use Rattle.line.specs.Spelt.{spelt_octet}
+use Rattle.jikhvanto.specs.Octets.{value_in}
 use Rattle.jikhvanto.specs.Stream.{number_at, stream_of, window_of, stream_numbers, spelt_numbers}
-use Rattle.jikhvanto.specs.Stream.{octets_of_stream, feeding_of, feed_stored, end_stored}
-use Rattle.jikhvanto.specs.Octets.{pair_places, reading_places}
-use Rattle.jikhvanto.specs.Calls.{JkFeed, JkEnd}
+use Rattle.jikhvanto.specs.Stream.{octets_of_stream, feeding_of, feed_stored}
 
 -- number i is spelt from octet 8i on
 pub number_from : (i : ℕ) (octets : List ℕ) → field octets (8 * (8 * i)) 64 ≡ number_at i octets
@@ -95,81 +98,67 @@ module _ (octets : List ℕ) (e : length octets ≡ 2144) where
   pub window_same : put_mid 96 2048 octets (window_of octets) ≡ octets
   window_same = ap (put_mid 96 2048 octets) (sym window_whole) ∙ put_same 96 2048 octets
 
--- What `feed` leaves, taken and refused.
-module _ (octets chunk payload slot0 : List ℕ) (r : Fed) (window' payload' slot0' : List ℕ) (st : Stream) (window : List ℕ)
-    (es : st ≡ stream_of octets) (ew : window ≡ window_of octets) (feeds : Feeds st window chunk payload slot0 r window' payload' slot0') where
-  f : Feeds (stream_of octets) (window_of octets) chunk payload slot0 r window' payload' slot0'
-  f =
-      subst (λ s. Feeds s (window_of octets) chunk payload slot0 r window' payload' slot0') es
-      (subst (λ w. Feeds st w chunk payload slot0 r window' payload' slot0') ew feeds)
+numbers : (st : Stream) (x : Result ℕ Refused)
+    → (number_in x ≡ (fed_answer st x).number) × (value_in x ≡ (fed_answer st x).multiframes)
+numbers st (Ok n) = (refl, refl)
+numbers st (Err e) = (refl, refl)
 
-  abbrev Leaves : List ℕ → Type 0
-  Leaves octets' =
-      Feeds (stream_of octets) (window_of octets) chunk payload slot0 r (window_of octets') payload' slot0'
-      × (octets' ≡ feed_stored octets chunk (length payload) (length slot0))
+-- an answer of which it is known whether it is a refusal
 
+taken : (st : Stream) (x : Result ℕ Refused) → is_ok x ≡ true → ((fed_answer st x).number ≡ 0) × ((fed_answer st x).stream ≡ st)
+taken st (Ok n) z = (refl, refl)
+taken st (Err e) z = absurd (true≢false (sym z))
+
+refused : (st : Stream) (x : Result ℕ Refused) → is_ok x ≡ false → (fed_answer st x).number ≡ 0 → ⊥
+refused st (Ok n) z = absurd (true≢false z)
+refused st (Err e) z = refusal_above_0 e
+
+-- What a chunk leaves, taken and refused, where x is answered and the stream st left.
+module _ (octets chunk payload slot0 window' payload' slot0' : List ℕ) (long : length octets ≡ 2144) (was st : Stream)
+    (x : Result ℕ Refused) (is : was ≡ stream_of octets)
+    (feeds : Feeds was (take 2048 (drop 96 octets)) chunk payload slot0 (fed_answer st x) window' payload' slot0') where
   abbrev fed : Fed
   fed = feeding_of octets chunk (length payload) (length slot0)
 
-  same_window : (w : List ℕ) → w ≡ window' → Feeds (stream_of octets) (window_of octets) chunk payload slot0 r w payload' slot0'
-  same_window w e = record { its_answer = f.its_answer; its_window = e ∙ f.its_window; its_payload = f.its_payload; its_slot0 = f.its_slot0 }
+  f : Feeds (stream_of octets) (window_of octets) chunk payload slot0 (fed_answer st x) window' payload' slot0'
+  f =
+      subst (λ s. Feeds s (window_of octets) chunk payload slot0 (fed_answer st x) window' payload' slot0') is
+      (subst (λ w. Feeds was w chunk payload slot0 (fed_answer st x) window' payload' slot0') (window_whole octets long) feeds)
 
-  number_same : r.number ≡ fed.number
-  number_same = ap (λ (x : Fed). x.number) f.its_answer
+  pub fed_number : number_in x ≡ fed.number
+  fed_number = (numbers st x).0 ∙ ap (λ (r : Fed). r.number) f.its_answer
 
-  pub fed_taken : (octets' : List ℕ) → r.number ≡ 0 → octets' ≡ octets_of_stream r.stream window' → Leaves octets'
+  pub fed_value : value_in x ≡ fed.multiframes
+  fed_value = (numbers st x).1 ∙ ap (λ (r : Fed). r.multiframes) f.its_answer
+
+  outputs : (w : List ℕ) → w ≡ window' → Feeds (stream_of octets) (window_of octets) chunk payload slot0 fed w payload' slot0'
+  outputs w e =
+      subst (λ r. Feeds (stream_of octets) (window_of octets) chunk payload slot0 r w payload' slot0') f.its_answer
+      (record { its_answer = f.its_answer; its_window = e ∙ f.its_window; its_payload = f.its_payload; its_slot0 = f.its_slot0 })
+
+  abbrev pub Leaves : List ℕ → Type 0
+  Leaves octets' =
+      Feeds (stream_of octets) (window_of octets) chunk payload slot0 fed (window_of octets') payload' slot0'
+      × (octets' ≡ feed_stored octets chunk (length payload) (length slot0))
+
+  pub fed_taken : is_ok x ≡ true → (octets' : List ℕ)
+      → octets' ≡ spelt_numbers (stream_numbers st) ++ window_of (put_mid 96 2048 octets window') → Leaves octets'
   unfolding feed_stored
-  fed_taken octets' z e = (
-    same_window (window_of octets') (ap window_of e ∙ window_behind (stream_numbers r.stream) window'),
-    e
-        ∙ ap₂ octets_of_stream (ap (λ (x : Fed). x.stream) f.its_answer) (f.its_window ∙ accepted_so r.number _ _ z)
-        ∙ sym (accepted_so fed.number _ _ (sym number_same ∙ z)),
-  )
-
-  pub fed_refused : (octets' : List ℕ) → length octets ≡ 2144 → (r.number ≡ 0 → ⊥) → octets' ≡ put_mid 96 2048 octets window' → Leaves octets'
-  unfolding feed_stored
-  fed_refused octets' l z e =
-      let same = f.its_window ∙ accepted_not r.number _ _ z in
-      let stays = e ∙ ap (put_mid 96 2048 octets) same ∙ window_same octets l in (
-        same_window (window_of octets') (ap window_of stays ∙ sym same),
-        stays ∙ sym (accepted_not fed.number _ _ (λ y. z (number_same ∙ y))),
+  fed_taken z octets' e =
+      let n = taken st x z in
+      let put = e ∙ ap (λ w. spelt_numbers (stream_numbers st) ++ w) (window_put octets long window') in (
+        outputs (window_of octets') (ap window_of put ∙ window_behind (stream_numbers st) window'),
+        put
+            ∙ ap₂ octets_of_stream (sym n.1 ∙ ap (λ (r : Fed). r.stream) f.its_answer) (f.its_window ∙ accepted_so _ _ _ n.0)
+            ∙ sym (accepted_so fed.number _ _ (sym (ap (λ (r : Fed). r.number) f.its_answer) ∙ n.0)),
       )
 
--- and in the places of its answer
-pub fed_placed : {octets chunk payload slot0 octets' payload' slot0' answer : List ℕ} {r : Fed}
-    → Feeds (stream_of octets) (window_of octets) chunk payload slot0 r (window_of octets') payload' slot0'
-    → octets' ≡ feed_stored octets chunk (length payload) (length slot0)
-    → answer ≡ pair_places r.number r.multiframes
-    → JkFeed octets chunk payload slot0 r.number octets' payload' slot0' answer
-fed_placed {octets} {chunk} {payload} {slot0} {octets'} {payload'} {slot0'} {r = r} f e a =
-    record {
-      its_outputs =
-          subst (λ x. Feeds (stream_of octets) (window_of octets) chunk payload slot0 x (window_of octets') payload' slot0') f.its_answer f;
-      its_number = ap (λ (x : Fed). x.number) f.its_answer;
-      its_stream = e;
-      its_answer = a ∙ ap (λ (x : Fed). pair_places r.number x.multiframes) f.its_answer;
-    }
-
--- What an end leaves.
-module _ (octets : List ℕ) (r : Ended) (e : r ≡ ending (stream_of octets)) (answer : List ℕ) (a : answer ≡ reading_places r.reading) where
-  ended_by : (octets' : List ℕ) → octets' ≡ end_stored octets → JkEnd octets r.reading.number octets' answer
-  ended_by octets' s =
-      record {
-        its_number = ap (λ (x : Ended). x.reading.number) e;
-        its_stream = s;
-        its_answer = a ∙ ap (λ (x : Ended). reading_places x.reading) e;
-      }
-
-  pub ended_taken : r.reading.number ≡ 0 → (octets' : List ℕ) → octets' ≡ octets_of_stream r.stream (window_of octets)
-      → JkEnd octets r.reading.number octets' answer
-  unfolding end_stored
-  ended_taken z octets' s =
-      ended_by octets'
-      (s ∙ ap (λ (x : Ended). octets_of_stream x.stream (window_of octets)) e
-      ∙ sym (accepted_so (ending (stream_of octets)).reading.number _ _ (sym (ap (λ (x : Ended). x.reading.number) e) ∙ z)))
-
-  pub ended_refused : (r.reading.number ≡ 0 → ⊥) → JkEnd octets r.reading.number octets answer
-  unfolding end_stored
-  ended_refused z =
-      ended_by octets
-      (sym (accepted_not (ending (stream_of octets)).reading.number _ _ (λ y. z (ap (λ (x : Ended). x.reading.number) e ∙ y))))
+  pub fed_refused : is_ok x ≡ false → (octets' : List ℕ) → octets' ≡ put_mid 96 2048 octets window' → Leaves octets'
+  unfolding feed_stored
+  fed_refused z octets' e =
+      let n = refused st x z in
+      let same = f.its_window ∙ accepted_not _ _ _ n in
+      let stays = e ∙ ap (put_mid 96 2048 octets) same ∙ window_same octets long in (
+        outputs (window_of octets') (ap window_of stays ∙ sym same),
+        stays ∙ sym (accepted_not fed.number _ _ (λ y. n (ap (λ (r : Fed). r.number) f.its_answer ∙ y))),
+      )

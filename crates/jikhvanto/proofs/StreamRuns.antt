@@ -17,7 +17,7 @@ use Rattle.stream.specs.Entry.{is_over, octets_came, grown_of, feed_refusals, fe
 use Rattle.stream.specs.Entry.{end_refusal, ending}
 use Rattle.stream.specs.Runs.{Call, chunk, end, Run, begun, called, run}
 use Rattle.stream.specs.declared.Stream.{Stream}
-use Rattle.stream.specs.declared.Fed.{Fed}
+use Rattle.stream.specs.Answer.{Fed}
 use Rattle.stream.proofs.RunLaws.{end_number, ended_by}
 use Rattle.jikhvanto.specs.Stream.{stream_of, window_of, octets_of_stream, feeding_of, feed_stored, end_stored}
 use Rattle.jikhvanto.specs.Runs.{stream_stepped, stream_ran}

@@ -10,7 +10,7 @@ use Rattle.signalled.specs.Entry as signalled
 use Rattle.t1read.specs.Entry as t1read
 use Rattle.t1write.specs.Entry as t1write
 use Rattle.t1write.specs.Writing.{with_signals}
-use Rattle.t1write.specs.declared.Written.{Written}
+use Rattle.t1write.specs.Answer.{Written}
 use Rattle.exchange.specs.Mapping.{Mapped}
 use Rattle.exchange.specs.Machine.{start_state, hosted, keyed, crossed}
 use Rattle.jikhvanto.specs.Octets.{state_of, octets_of, stored, host_stored, reading_places, why_places}

@@ -1,15 +1,16 @@
 -- A state as 99 octets, and an answer as 16 places (KIT §10).
-use Rattle.std.specs.Prelude.{if◌then◌else◌, ℕ, List, [], ◌∷◌, ◌++◌, eqb, get_or, take, drop, replicate}
+use Rattle.std.specs.Prelude.{if◌then◌else◌, ℕ, List, [], ◌∷◌, ◌++◌, eqb, get_or, take, drop, replicate, Result, Ok, Err}
 use mir.Val.{bool_byte}
 use Rattle.base.specs.Answer.{accepted}
+use Rattle.base.specs.declared.Refused.{Refused}
 use Rattle.align.specs.Why.{why_values}
 use Rattle.align.specs.declared.Why.{Why}
 use Rattle.exchange.specs.Machine.{kind_of, hosted}
 use Rattle.exchange.specs.declared.State.{State}
-use Rattle.exchange.specs.declared.Answered.{Answered}
-use Rattle.read.specs.declared.Reading.{Reading}
-use Rattle.signals.specs.declared.Signalling.{Signalling}
-use Rattle.t1read.specs.declared.Reading as t1read
+use Rattle.exchange.specs.Answer.{Answered}
+use Rattle.read.specs.Answer.{Reading}
+use Rattle.signals.specs.Answer.{Signalling}
+use Rattle.t1read.specs.Answer as t1read
 
 -- the 32 octets of a map
 unfoldable pub map_at : ℕ → List ℕ → List ℕ
@@ -61,7 +62,7 @@ signalling_places r =
     ∷ r.x0 ∷ r.x1 ∷ r.x2 ∷ r.y ∷ [])
 
 -- what is said of a place
-unfoldable pub why_places : Why → List ℕ
+unfoldable pub why_places : Result Why Refused → List ℕ
 why_places w = answer_of (why_values w)
 
 -- a reading of T1
@@ -71,3 +72,8 @@ t1_reading_places r = answer_of (r.number ∷ r.place ∷ r.whole ∷ r.compared
 -- number and value to places 0 and 1: a check that was written, or an entry that a host record reads
 unfoldable pub pair_places : ℕ → ℕ → List ℕ
 pair_places number value = answer_of (number ∷ value ∷ [])
+
+-- what a result has beside its number
+abbrev pub value_in : Result ℕ Refused → ℕ
+value_in (Ok v) = v
+value_in (Err e) = 0

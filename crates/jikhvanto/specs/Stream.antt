@@ -6,13 +6,13 @@ use Rattle.base.specs.Answer.{accepted}
 use Rattle.base.specs.Tab.{tab}
 use Rattle.line.specs.Bit.{field}
 use Rattle.line.specs.Spelt.{spelt_octet}
-use Rattle.align.specs.Place.{place_of}
+use Rattle.align.specs.Place.{place_of, k_of}
 use Rattle.align.specs.declared.Found.{Found}
 use Rattle.align.specs.declared.Found.TheVariants.{At, BasicAt, Nothing}
 use Rattle.chunk.specs.Taking.{over}
 use Rattle.stream.specs.Entry.{grown_of, feeding, ending}
 use Rattle.stream.specs.declared.Stream.{Stream}
-use Rattle.stream.specs.declared.Fed.{Fed}
+use Rattle.stream.specs.Answer.{Fed}
 
 -- number i of the twelve
 unfoldable pub number_at : ℕ → List ℕ → ℕ
@@ -49,11 +49,6 @@ abbrev pub found_number : Found → ℕ
 found_number (At p k) = 2
 found_number (BasicAt p) = 1
 found_number Nothing = 0
-
-abbrev pub k_of : Found → ℕ
-k_of (At p k) = k
-k_of (BasicAt p) = 0
-k_of Nothing = 0
 
 unfoldable pub stream_numbers : Stream → List ℕ
 stream_numbers st =

@@ -3,60 +3,51 @@
 
 pub mod superframes;
 
-ghost use Rattle.std.specs.Prelude.{◌≡◌, [], ◌∷◌, ◌++◌, ◌+◌, ◌≤◌, ◌<◌, length, drop, eqb};
-ghost use Rattle.align.specs.Place.{place_of};
+ghost use Rattle.std.specs.Prelude.{◌≡◌, ◌++◌, ◌+◌, ◌≤◌, ◌<◌, length, drop, eqb, slice_index};
+ghost use Rattle.base.specs.Number.{number_in};
 ghost use Rattle.align.specs.Why.{why_number};
-ghost use Rattle.stream.specs.Entry.{Feeds};
+ghost use Rattle.read.specs.Answer as reads;
+ghost use Rattle.signals.specs.Answer as signals;
 ghost use Rattle.exchange.specs.Machine.{kind_of};
-ghost use Rattle.jikhvanto.specs.Octets.{map_at, state_of, octets_of, stored, reading_places, why_places};
-ghost use Rattle.jikhvanto.specs.Octets.{signalling_places, answer_of, pair_places};
-ghost use Rattle.jikhvanto.specs.Stream.{number_at, found_by, stream_of, found_number, k_of, stream_numbers};
-ghost use Rattle.jikhvanto.specs.Stream.{window_of, spelt_numbers, feed_stored};
+ghost use Rattle.jikhvanto.specs.Octets.{map_at, state_of, octets_of, reading_places, why_places};
+ghost use Rattle.jikhvanto.specs.Octets.{signalling_places, answer_of, pair_places, value_in};
+ghost use Rattle.jikhvanto.specs.Stream.{number_at, found_by, stream_of, found_number};
+ghost use Rattle.jikhvanto.specs.Stream.{stream_numbers, spelt_numbers};
 ghost use Rattle.jikhvanto.specs.Calls.{JkRead, JkStreamStart, JkFeed, JkEnd};
 ghost use Rattle.jikhvanto.specs.Calls.{JkSignals, JkWhy, JkWrite, JkWriteSignalled};
 ghost use Rattle.jikhvanto.specs.Calls.{JkStart, JkHost, JkKey, JkBoundary, JkMap};
 
 use align::{Found, Why};
-use exchange::{Answered, State};
+use base::Refused;
+use exchange::State;
 use growth::Line;
 use read::Reading;
 use signals::Signalling;
-use stream::{Fed, Stream};
-
-// a map, from 32 octets to 32 others
-fn copy(from: &[u8], to: &mut [u8])
-    requires { (length from.now ≡ 32) × (length to.old ≡ 32) }
-    ensures { to.new ≡ from.now }
-{
-    for i in 0..32 {
-        to[i] = from[i];
-    }
-}
+use stream::Stream;
 
 // the 32 octets of a map
+#[tactic(auto, unfolding(crate::specs::Octets::map_at))]
 fn map_at(octets: &[u8], at: usize) -> [u8; 32]
     requires { at + 32 ≤ length octets.now }
     ensures { result ≡ map_at at octets.now }
 {
     let mut map = [0; 32];
-    copy(&octets[at..at + 32], &mut map);
+    map.copy_from_slice(&octets[at..at + 32]);
     map
 }
 
 // the state that the octets are
+#[tactic(auto, unfolding(crate::specs::Octets::state_of))]
 fn unpack(octets: &[u8; 99]) -> State
     ensures { result ≡ state_of octets.now }
 {
-    let live = map_at(octets, 3);
-    let staged = map_at(octets, 35);
-    let waiting = map_at(octets, 67);
     State {
         flag: octets[0] == 1,
         staging: octets[1] == 1,
         pending: octets[2] == 1,
-        live,
-        staged,
-        waiting,
+        live: map_at(octets, 3),
+        staged: map_at(octets, 35),
+        waiting: map_at(octets, 67),
     }
 }
 
@@ -64,16 +55,13 @@ fn unpack(octets: &[u8; 99]) -> State
 fn pack(state: State) -> [u8; 99]
     ensures { result ≡ octets_of state }
 {
-    let live = state.live;
-    let staged = state.staged;
-    let waiting = state.waiting;
     let mut octets = [0; 99];
     octets[0] = state.flag as u8;
     octets[1] = state.staging as u8;
     octets[2] = state.pending as u8;
-    copy(&live, &mut octets[3..35]);
-    copy(&staged, &mut octets[35..67]);
-    copy(&waiting, &mut octets[67..99]);
+    octets[3..35].copy_from_slice(&state.live);
+    octets[35..67].copy_from_slice(&state.staged);
+    octets[67..99].copy_from_slice(&state.waiting);
     octets
 }
 
@@ -81,25 +69,11 @@ fn pack(state: State) -> [u8; 99]
 fn is_reading(octets: &[u8]) -> bool
     ensures { result ≡ eqb (kind_of octets.now) 3 }
 {
-    if octets.len() == 0 {
-        return false;
-    }
-    octets[0] == 3
-}
-
-// what a call of the machine answered, into the octets unless it is refused, and its number
-fn store(answered: Answered, octets: &mut [u8; 99]) -> u64
-    ensures { (result ≡ answered.number) × (octets.new ≡ stored octets.old answered) }
-{
-    let number = answered.number;
-    if number == 0 {
-        let state = answered.state;
-        *octets = pack(state);
-    }
-    number
+    octets.first() == Some(&3)
 }
 
 // number i of a stream's twelve
+#[tactic(auto, using(crate::proofs::StreamLaws::number_from))]
 fn number_at(octets: &[u8], i: usize) -> u64
     requires { (i < 12) × (length octets.now ≡ 2144) }
     ensures { result ≡ number_at i octets.now }
@@ -116,19 +90,19 @@ fn length_at(octets: &[u8], i: usize) -> usize
 }
 
 // what is found, by its number
+#[tactic(auto, unfolding(crate::specs::Stream::found_by))]
 fn found_by(number: u64, place: usize, k: usize) -> Found
     ensures { result ≡ found_by number place k }
 {
-    if number == 2 {
-        return Found::At { place, k };
+    match number {
+        2 => Found::At { place, k },
+        1 => Found::BasicAt { place },
+        _ => Found::Nothing,
     }
-    if number == 1 {
-        return Found::BasicAt { place };
-    }
-    Found::Nothing
 }
 
 // the stream that the octets are
+#[tactic(auto, unfolding(crate::specs::Stream::stream_of))]
 fn unpack_stream(octets: &[u8]) -> Stream
     requires { length octets.now ≡ 2144 }
     ensures { result ≡ stream_of octets.now }
@@ -155,39 +129,19 @@ fn unpack_stream(octets: &[u8]) -> Stream
     }
 }
 
-// the number of what is found, its place, and its k
-
+// the number of what is found
 fn found_number(found: Found) -> u64
     ensures { result ≡ found_number found }
 {
     match found {
-        Found::At { place, k } => 2,
-        Found::BasicAt { place } => 1,
-        Found::Nothing => 0,
-    }
-}
-
-fn place_of(found: Found) -> usize
-    ensures { result ≡ place_of found }
-{
-    match found {
-        Found::At { place, k } => place,
-        Found::BasicAt { place } => place,
-        Found::Nothing => 0,
-    }
-}
-
-fn k_of(found: Found) -> usize
-    ensures { result ≡ k_of found }
-{
-    match found {
-        Found::At { place, k } => k,
-        Found::BasicAt { place } => 0,
+        Found::At { place: _, k: _ } => 2,
+        Found::BasicAt { place: _ } => 1,
         Found::Nothing => 0,
     }
 }
 
 // the numbers of a stream
+#[tactic(auto, unfolding(crate::specs::Stream::stream_numbers))]
 fn stream_numbers(stream: Stream) -> [u64; 12]
     ensures { result ≡ stream_numbers stream }
 {
@@ -198,8 +152,8 @@ fn stream_numbers(stream: Stream) -> [u64; 12]
         stream.fill as u64,
         line.before as u64,
         found_number(found),
-        place_of(found) as u64,
-        k_of(found) as u64,
+        found.place() as u64,
+        found.k() as u64,
         line.used as u64,
         line.lost as u64,
         line.words as u64,
@@ -214,97 +168,107 @@ fn store_numbers(stream: Stream, octets: &mut [u8])
     requires { length octets.old ≡ 2144 }
     ensures { octets.new ≡ spelt_numbers (stream_numbers stream) ++ drop 96 octets.old }
 {
-    let numbers = stream_numbers(stream);
-    for i in 0..12 {
-        let a = 8 * i;
-        line::spell(numbers[i], &mut octets[a..a + 8]);
+    for (i, number) in stream_numbers(stream).iter().enumerate() {
+        line::spell(*number, &mut octets[8 * i..8 * i + 8]);
     }
 }
 
-// a chunk to the stream that the octets are: what it makes of them, and is answered
-fn feed(octets: &mut [u8], chunk: &[u8], payload: &mut [u8], slot0: &mut [u8]) -> Fed
-    requires { length octets.old ≡ 2144 }
-    ensures { Feeds (stream_of octets.old) (window_of octets.old)
-        chunk.now payload.old slot0.old
-        result (window_of octets.new) payload.new slot0.new
-        × (octets.new ≡ feed_stored octets.old chunk.now
-        (length payload.old) (length slot0.old)) }
+// values in their places, zeros behind; the first of them, which is the number
+fn give(values: &[u64], answer: &mut [u64; 16]) -> u64
+    requires { (0 < length values.now) × (length values.now ≤ 16) }
+    ensures { (result ≡ slice_index values.now 0) × (answer.new ≡ answer_of values.now) }
 {
-    let stream = unpack_stream(octets);
-    let fed = stream::feed(stream, &mut octets[96..2144], chunk, payload, slot0);
-    if fed.number == 0 {
-        let then = fed.stream;
-        store_numbers(then, octets);
+    *answer = [0; 16];
+    answer[..values.len()].copy_from_slice(values);
+    values[0]
+}
+
+// a value beside the number 0, or a refusal
+#[tactic(auto, unfolding(crate::specs::Octets::pair_places))]
+fn give_value(value: Result<u64, Refused>, answer: &mut [u64; 16]) -> u64
+    ensures { (result ≡ number_in value) × (answer.new ≡ pair_places (number_in value) (value_in value)) }
+{
+    match value {
+        Ok(v) => give(&[0, v], answer),
+        Err(e) => give(&[e.number()], answer),
     }
-    fed
 }
 
 // a reading, in its places
-fn give_reading(r: Reading, answer: &mut [u64; 16])
-    ensures { answer.new ≡ reading_places r }
+#[tactic(auto, unfolding(crate::specs::Octets::reading_places))]
+fn give_reading(reading: Result<Reading, Refused>, answer: &mut [u64; 16]) -> u64
+    ensures { (result ≡ number_in reading) × (answer.new ≡ reading_places (reads.answered reading)) }
 {
-    *answer = [0; 16];
-    answer[0] = r.number;
-    answer[1] = r.place as u64;
-    answer[2] = r.start as u64;
-    answer[3] = r.whole as u64;
-    answer[4] = r.used as u64;
-    answer[5] = r.lost as u64;
-    answer[6] = r.words as u64;
-    answer[7] = r.compared as u64;
-    answer[8] = r.errored as u64;
-    answer[9] = r.farend as u64;
-    answer[10] = r.wordbits as u64;
-    answer[11] = r.cause;
-}
-
-// a reading of signalling, in its places
-fn give_signalling(r: Signalling, answer: &mut [u64; 16])
-    ensures { answer.new ≡ signalling_places r }
-{
-    *answer = [0; 16];
-    answer[0] = r.number;
-    answer[1] = r.multiframes as u64;
-    answer[2] = r.first as u64;
-    answer[3] = r.losses as u64;
-    answer[4] = r.held as u64;
-    answer[5] = r.x0 as u64;
-    answer[6] = r.x1 as u64;
-    answer[7] = r.x2 as u64;
-    answer[8] = r.y as u64;
-}
-
-// four numbers to places 0 to 3, and the first of them
-fn give_four(a: u64, b: u64, c: u64, d: u64, answer: &mut [u64; 16]) -> u64
-    ensures { (result ≡ a) × (answer.new ≡ answer_of (a ∷ b ∷ c ∷ d ∷ [])) }
-{
-    *answer = [0; 16];
-    answer[0] = a;
-    answer[1] = b;
-    answer[2] = c;
-    answer[3] = d;
-    a
-}
-
-// what is said of a place, in its places, and its number
-fn give_why(w: Why, answer: &mut [u64; 16]) -> u64
-    ensures { (result ≡ why_number w) × (answer.new ≡ why_places w) }
-{
-    match w {
-        Why::NoneFails { k } => give_four(0, 0, k as u64, 0, answer),
-        Why::FirstWord { bit } => give_four(0, 1, 0, bit as u64, answer),
-        Why::Bit2 => give_four(0, 2, 0, 0, answer),
-        Why::SecondWord { bit } => give_four(0, 3, 0, bit as u64, answer),
-        Why::NoPair => give_four(0, 4, 0, 0, answer),
-        Why::Refused { number } => give_four(number, 0, 0, 0, answer),
+    match reading {
+        Ok(r) => {
+            let values = [
+                0,
+                r.place as u64,
+                r.start as u64,
+                r.whole as u64,
+                r.used as u64,
+                r.lost() as u64,
+                r.words as u64,
+                r.compared as u64,
+                r.errored as u64,
+                r.farend as u64,
+                r.wordbits as u64,
+                r.cause(),
+            ];
+            give(&values, answer)
+        }
+        Err(e) => give(&[e.number(), e.place() as u64], answer),
     }
 }
 
-// number and value to places 0 and 1
-fn give_pair(number: u64, value: u64, answer: &mut [u64; 16])
-    ensures { answer.new ≡ pair_places number value }
+// a reading of signalling, in its places
+#[tactic(auto, unfolding(crate::specs::Octets::signalling_places))]
+fn give_signalling(signalling: Result<Signalling, Refused>, answer: &mut [u64; 16]) -> u64
+    ensures { (result ≡ number_in signalling) × (answer.new ≡ signalling_places (signals.answered signalling)) }
 {
-    give_four(number, value, 0, 0, answer);
+    match signalling {
+        Ok(r) => {
+            let values = [
+                0,
+                r.multiframes as u64,
+                r.first as u64,
+                r.losses as u64,
+                r.held as u64,
+                r.x0 as u64,
+                r.x1 as u64,
+                r.x2 as u64,
+                r.y as u64,
+            ];
+            give(&values, answer)
+        }
+        Err(e) => give(&[e.number()], answer),
+    }
+}
+
+// what is said of a place, in its places
+#[tactic(auto, unfolding(crate::specs::Octets::why_places))]
+fn give_why(said: Result<Why, Refused>, answer: &mut [u64; 16]) -> u64
+    ensures { (result ≡ why_number said) × (answer.new ≡ why_places said) }
+{
+    let values = match said {
+        Ok(Why::NoneFails { k }) => [0, 0, k as u64, 0],
+        Ok(Why::FirstWord { bit }) => [0, 1, 0, bit as u64],
+        Ok(Why::Bit2) => [0, 2, 0, 0],
+        Ok(Why::SecondWord { bit }) => [0, 3, 0, bit as u64],
+        Ok(Why::NoPair) => [0, 4, 0, 0],
+        Err(e) => [e.number(), 0, 0, 0],
+    };
+    give(&values, answer)
+}
+
+// the number alone
+fn number(done: Result<(), Refused>) -> u64
+    ensures { result ≡ number_in done }
+{
+    match done {
+        Ok(()) => 0,
+        Err(e) => e.number(),
+    }
 }
 
 // an image is read
@@ -312,9 +276,7 @@ pub fn jk_read(image: &[u8], payload: &mut [u8], slot0: &mut [u8], answer: &mut 
     ensures { JkRead image.now payload.old slot0.old
         result payload.new slot0.new answer.new }
 {
-    let r = read::read(image, payload, slot0);
-    give_reading(r, answer);
-    r.number
+    give_reading(read::read(image, payload, slot0), answer)
 }
 
 // a stream begins
@@ -325,6 +287,7 @@ pub fn jk_stream_start(stream: &mut [u8; 2144])
 }
 
 // a stream is fed a chunk
+#[tactic(auto, unfolding(crate::specs::Stream::feed_stored))]
 pub fn jk_feed(
     stream: &mut [u8; 2144],
     chunk: &[u8],
@@ -335,32 +298,32 @@ pub fn jk_feed(
     ensures { JkFeed stream.old chunk.now payload.old slot0.old
         result stream.new payload.new slot0.new answer.new }
 {
-    let fed = feed(stream, chunk, payload, slot0);
-    give_pair(fed.number, fed.multiframes as u64, answer);
-    fed.number
+    let mut fed = unpack_stream(stream);
+    let multiframes = fed.feed(&mut stream[96..], chunk, payload, slot0);
+    if multiframes.is_ok() {
+        store_numbers(fed, stream);
+    }
+    give_value(multiframes.map(|m| m as u64), answer)
 }
 
 // a stream is ended
+#[tactic(auto, unfolding(crate::specs::Stream::end_stored))]
 pub fn jk_end(stream: &mut [u8; 2144], answer: &mut [u64; 16]) -> u64
     ensures { JkEnd stream.old result stream.new answer.new }
 {
-    let ended = stream::end(unpack_stream(stream));
-    let r = ended.reading;
-    give_reading(r, answer);
-    if r.number == 0 {
-        let then = ended.stream;
-        store_numbers(then, stream);
+    let mut ended = unpack_stream(stream);
+    let reading = ended.end();
+    if reading.is_ok() {
+        store_numbers(ended, stream);
     }
-    r.number
+    give_reading(reading, answer)
 }
 
 // the signalling of an image is read
 pub fn jk_signals(image: &[u8], abcd: &mut [u8], answer: &mut [u64; 16]) -> u64
     ensures { JkSignals image.now abcd.old result abcd.new answer.new }
 {
-    let r = signals::signals(image, abcd);
-    give_signalling(r, answer);
-    r.number
+    give_signalling(signals::signals(image, abcd), answer)
 }
 
 // a place of an image is asked about
@@ -381,9 +344,7 @@ pub fn jk_write(
     ensures { JkWrite payload.now overhead.now check out.old
         result out.new answer.new }
 {
-    let w = write::write(payload, overhead, check, out);
-    give_pair(w.number, w.check, answer);
-    w.number
+    give_value(write::write(payload, overhead, check, out), answer)
 }
 
 // multiframes are written with signalling
@@ -399,47 +360,55 @@ pub fn jk_write_signalled(
     ensures { JkWriteSignalled payload.now overhead.now check
         xy.now abcd.now out.old result out.new answer.new }
 {
-    let w = signalled::write_signalled(payload, overhead, check, xy, abcd, out);
-    give_pair(w.number, w.check, answer);
-    w.number
+    let written = signalled::write_signalled(payload, overhead, check, xy, abcd, out);
+    give_value(written, answer)
 }
 
 // a state begins
 pub fn jk_start(state: &mut [u8; 99])
     ensures { JkStart state.new }
 {
-    *state = pack(exchange::start());
+    *state = pack(State::start());
 }
 
 // a host record
+#[tactic(auto, unfolding(crate::specs::Octets::host_stored))]
 pub fn jk_host(state: &mut [u8; 99], octets: &[u8], answer: &mut [u64; 16]) -> u64
     ensures { JkHost state.old octets.now result state.new answer.new }
 {
-    let a = exchange::host(unpack(state), octets);
-    give_pair(a.number, a.entry as u64, answer);
-    if is_reading(octets) {
-        return a.number;
+    let mut machine = unpack(state);
+    let entry = machine.host(octets);
+    if entry.is_ok() && !is_reading(octets) {
+        *state = pack(machine);
     }
-    store(a, state)
+    give_value(entry.map(u64::from), answer)
 }
 
 // the key, to a position
 pub fn jk_key(state: &mut [u8; 99], position: u64) -> u64
     ensures { JkKey state.old position result state.new }
 {
-    store(exchange::key(unpack(state), position), state)
+    let mut machine = unpack(state);
+    let turned = machine.key(position);
+    if turned.is_ok() {
+        *state = pack(machine);
+    }
+    number(turned)
 }
 
 // a multiframe boundary
 pub fn jk_boundary(state: &mut [u8; 99]) -> u64
     ensures { JkBoundary state.old result state.new }
 {
-    store(exchange::boundary(unpack(state)), state)
+    let mut machine = unpack(state);
+    machine.boundary();
+    *state = pack(machine);
+    0
 }
 
 // a payload through the live map, the state only looked at
 pub fn jk_map(state: &[u8; 99], payload: &[u8], out: &mut [u8]) -> u64
     ensures { JkMap state.now payload.now out.old result out.new }
 {
-    exchange::map_payload(unpack(state), payload, out)
+    number(unpack(state).map(payload, out))
 }
