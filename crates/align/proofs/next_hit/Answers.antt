@@ -15,3 +15,6 @@ loop-w-preserved c =
     let none : NoneFrom (Basic c.args.s.now) (8 * c.args.i) (8 * (c.loop-j.j + 7 * c.loop-w.w) + 56)
     = none_to _ _ _ r c.starts-places.ensures (omega arith) c.loop-w.invariant 56 (omega arith) (omega (arith, empty)) in
     λ q g b. none q g (omega arith)
+
+pub loop-j-preserved : goal.loop-j-preserved
+loop-j-preserved c = (omega arith, omega arith, λ q g b. c.loop-w.invariant q g (omega arith))
