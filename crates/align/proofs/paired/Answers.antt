@@ -1,9 +1,7 @@
--- `paired` meets its contract: a place with a pair leaves its bit, in octets that are not turned yet.
 use Prim.Native.Nat.{ℕ, ◌+◌, ◌-◌, ◌*◌, ◌<◌}
 use mathlib.Core.Path.{◌≡◌, sym, ap, ◌∙◌}
 use mathlib.Core.List.{List}
 use native.Mathlib.Omega.{arith}
-use borrow.Author.Rules.{rules}
 use lib.ListN.{get_or}
 use Rattle.line.specs.Bit.{bit_at}
 use Rattle.line.specs.Signal.{signal}
@@ -11,8 +9,7 @@ use Rattle.align.specs.Stands.{Signal, Pair}
 use Rattle.line.specs.Window.{bit_of, One}
 use Rattle.align.specs.Window.{Marks, Signals, Pairs}
 use Rattle.line.proofs.WindowLaws.{unturned, turned_at, bit_at_lem}
-use Rattle.align.proofs.paired.Statement.{statement}
-use Rattle.align.proofs.paired.Tie as tie
+use Rattle.align.proofs.paired.Goals as goal
 
 module _ (s : List ℕ) (i o : ℕ) (m : List ℕ) (h : o < 64) (marks : Marks s i 32 m) where
   -- the bit of the place, before octets are turned
@@ -32,20 +29,11 @@ module _ (s : List ℕ) (i o : ℕ) (m : List ℕ) (h : o < 64) (marks : Marks s
       pairs k (omega arith) before (at k (omega arith) e.here) e.j e.least_j e.most_j
       (at (k + 8 * e.j) (omega arith) e.again)
 
-returns : tie.Need-returns
+pub returns : goal.returns
 returns c o l h =
-    let p = c.before in
-    let g = p.before.before in
-    let m = g.before.before in
-    let a = m.before.before.args in
-    let s = a.s.now in
-    let x = m.marks-m.result in
     rw c.turned.ensures
-    (turned_at p.pairs.result (63 - o) (omega arith)
-    ∙ pair_one s a.i o x (omega arith) m.marks-m.ensures g.signals-g.result p.pairs.result h.0
-    g.signals-g.ensures
-    p.pairs.ensures
+    (turned_at c.pairs.result (63 - o) (omega arith)
+    ∙ pair_one c.args.s.now c.args.i o c.marks-m.result (omega arith) c.marks-m.ensures c.signals-g.result c.pairs.result h.0
+    c.signals-g.ensures
+    c.pairs.ensures
     h.1)
-
-pub paired_spec : {M : Type 1} → statement M
-paired_spec = tie.close (tie.spec (search rules) (search rules) (search rules) (search rules) returns)

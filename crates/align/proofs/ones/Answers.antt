@@ -1,14 +1,11 @@
--- `ones` meets its contract.
 use Prim.Native.Nat.{ℕ, ◌+◌, ◌-◌, ◌*◌, ◌%◌, ◌^◌, ◌<◌}
 use mathlib.Core.Path.{◌≡◌, refl, sym, ap, ◌∙◌}
 use native.Mathlib.Omega.{arith}
-use borrow.Author.Rules.{rules}
 use lib.Bits.{bit_and}
 use Rattle.line.specs.Window.{turned, bit_of, One}
 use Rattle.line.proofs.WindowLaws.{moved_one, and_one}
 use Rattle.align.proofs.Sets.{both_one}
-use Rattle.align.proofs.ones.Statement.{statement}
-use Rattle.align.proofs.ones.Tie as tie
+use Rattle.align.proofs.ones.Goals as goal
 
 -- two ones, the first at n + 1
 abbrev twos : ℕ → ℕ
@@ -27,18 +24,12 @@ two_and_two x n h a b c d =
     and_one (twos x) _ (n + 4) (ap (bit_of (twos x)) (sym e) ∙ upper)
     (moved_one (twos x) (n + 1) 3 (n + 4) 64 (omega arith) h (two x n (omega arith) c (ap (bit_of x) z ∙ d)))
 
-returns : tie.Need-returns
+pub returns : goal.returns
 returns c o h b =
-    let two = c.before in
-    let one = two.before in
-    let a = one.before.before.args in
-    let x = one.eight_octets.result in
-    let y = two.eight_octets-2.result in
+    let x = c.eight_octets.result in
+    let y = c.eight_octets-2.result in
     let both : (j k : ℕ) → j + 1 + k ≡ 7 → bit_of 27 k ≡ 1 → One (turned 8 (bit_and x y)) (56 - o + k)
-    = both_one a.s.now a.i o x y h b one.eight_octets.ensures two.eight_octets-2.ensures in
+    = both_one c.args.s.now c.args.i o x y h b c.eight_octets.ensures c.eight_octets-2.ensures in
     let e : 56 - o + 4 ≡ 60 - o = omega arith in
     rw (c.turned-both.ensures, ← e)
     (two_and_two (turned 8 (bit_and x y)) (56 - o) (omega arith) (both 2 4 refl refl) (both 3 3 refl refl) (both 5 1 refl refl) (both 6 0 refl refl))
-
-pub ones_spec : {M : Type 1} → statement M
-ones_spec = tie.close (tie.spec (search rules) (search rules) (search rules) (search rules) returns)
