@@ -2,63 +2,57 @@
 // `--why`, before the file, comes a place to mark.
 #![tactic(auto)]
 
-use align::Why;
+use base::Refused;
 use drawing::Asked;
-use program::text::Spelt;
+use program::{Kind, Printed, Program};
 use std::io::writer;
 
-// the picture, or, on standard error, why there is none
-fn picture(rt: &impl Print, image: &[u8], asked: Asked) {
+const PICTURE: Program<'static> = Program {
+    name: "picture",
+    kind: Kind::E1,
+};
+
+// the picture, with a place marked, if one is
+fn drawn(rt: &impl Print, image: &[u8], asked: Option<Asked>) -> Result<Printed, Refused> {
     let mut payload = [0u8; 7936];
     let mut slot0 = [0u8; 256];
-    let r = read::read(image, &mut payload, &mut slot0);
-    if r.number != 0 {
-        program::refused(b"picture", r.number);
-        program::name_place(b"picture", r.number, r.place);
-        return;
-    }
     let mut abcd = [0u8; 450];
-    let s = signals::signals(image, &mut abcd);
-    program::written(
-        b"picture",
-        drawing::line(writer(rt), image, r, &slot0, s, asked),
-    );
+    let r = read::read(image, &mut payload, &mut slot0)?;
+    let s = signals::signals(image, &mut abcd)?;
+    Ok(drawing::line(writer(rt), image, r, &slot0, &s, asked))
 }
 
-// the same with a place marked
-fn marked(rt: &impl Print, image: &[u8], place: u64) {
-    let why = align::ask::why(image, place);
-    if let Why::Refused { number } = why {
-        program::refused(b"picture", number);
-        return;
+// the same with the place that is asked about
+fn marked(rt: &impl Print, image: &[u8], place: u64) -> Result<Printed, Refused> {
+    let why = align::ask::why(image, place)?;
+    let place = place as usize;
+    drawn(rt, image, Some(Asked { place, why }))
+}
+
+// on standard error, why there is no picture
+fn answer(drawn: Result<Printed, Refused>) {
+    match drawn {
+        Ok(printed) => PICTURE.written(printed),
+        Err(why) => {
+            PICTURE.refused(why);
+            PICTURE.name_place(why);
+        }
     }
-    picture(
-        rt,
-        image,
-        Asked::Place {
-            place: place as usize,
-            why,
-        },
-    );
 }
 
 // No line over 8,192 octets is read, so one octet more is enough to know that it is longer.
 fn main(rt: HostRuntime) {
     let mut image = [0u8; 8193];
     if program::is_first(&rt, b"--why") {
-        let Spelt::Number(place) = program::place(&rt, b"picture", 2) else {
+        let Some(place) = PICTURE.place(&rt, 2) else {
             return;
         };
-        let taken = program::read(&rt, b"picture", 3, &mut image);
-        if taken.ok {
-            let n = taken.n;
-            marked(&rt, &image[..n], place);
+        if let Some(n) = PICTURE.read(&rt, 3, &mut image) {
+            answer(marked(&rt, &image[..n], place));
         }
         return;
     }
-    let taken = program::read(&rt, b"picture", 1, &mut image);
-    if taken.ok {
-        let n = taken.n;
-        picture(&rt, &image[..n], Asked::Nothing);
+    if let Some(n) = PICTURE.read(&rt, 1, &mut image) {
+        answer(drawn(&rt, &image[..n], None));
     }
 }
