@@ -8,6 +8,7 @@ ghost use Rattle.heard.specs.Hearing.{channel_of};
 // What is known behind some frames: how many there were; how many frames of a signalling multiframe have passed, 0
 // where alignment is searched for, and whether its signal was wrong; how many are read, the frame of the first
 // alignment, and the losses; slot 16 of frame 0 of the last that is read; and the last 16 octets, the newest last.
+// kept: no option for `first` or `passed`: 0 is what is answered, and what the definitions of a walk have
 #[derive(Clone, Copy)]
 pub struct Hearing {
     pub frames: usize,

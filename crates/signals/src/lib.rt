@@ -13,6 +13,7 @@ use base::Refused;
 // What is read. `starts` has the frame at which each signalling multiframe begins that is read, and zeros behind them.
 // kept: no slice in place of `multiframes` and `starts`: there is no heap
 // kept: what `Followed` has stands here again: callers read the fields of an answer, and no part of it
+// kept: no option for `first`, 0 where there is none: the C interface answers the number
 #[derive(Clone, Copy)]
 pub struct Signalling {
     pub multiframes: usize,
@@ -44,6 +45,7 @@ impl Followed {
     {
         for (m, start) in self.starts[..self.multiframes].iter().enumerate() {
             let f = *start;
+            // kept: by index: a proof does not know what is left in a slice under `chunks_exact_mut`
             let a = 30 * m;
             put_channels(&t[f..f + 16], &mut out[a..a + 30]);
         }
@@ -105,6 +107,7 @@ fn follow(t: &[u8]) -> Followed
     let mut held = false;
     let mut wrong = false;
     let mut f = 0;
+    // kept: no `for`: a step is one frame or sixteen
     while f < t.len() {
         if begins(t, f, held, wrong) {
             if first == 0 {
