@@ -251,6 +251,8 @@ fn onward(s: &[u8], p: usize, end: usize, known: bool) -> usize
 }
 
 // the first place that stands, with its least k, or else the first with basic alignment, which is noted on the way
+// kept: no `least_k` in place of the loop over k: the search is one of the named forms (DECISIONS), nested and left from
+// inside by its label
 pub fn find(s: &[u8]) -> Found
     requires { length s.now < 2 ^ 60 }
     ensures { result ≡ found_in s.now }
@@ -259,18 +261,20 @@ pub fn find(s: &[u8]) -> Found
     let end = line::octets_with_room(s, 2048);
     let mut p = 0;
     let mut first = None;
-    loop {
+    'search: loop {
         p = onward(s, p, end, first.is_some());
         if bits < p + 16384 {
-            return match first {
+            break 'search match first {
                 Some(place) => Found::BasicAt { place },
                 None => Found::Nothing,
             };
         }
         if basic(s, p) {
             first = first.or(Some(p));
-            if let Some(k) = least_k(s, p) {
-                return Found::At { place: p, k };
+            for k in 0..19 {
+                if pair(s, p, k) {
+                    break 'search Found::At { place: p, k };
+                }
             }
         }
         p += 1;

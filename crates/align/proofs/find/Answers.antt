@@ -8,9 +8,9 @@ use Rattle.align.specs.Stands.{Basic, BasicFirst, Pair, Stands}
 use Rattle.align.specs.Window.{NoneFrom, Wanted}
 use Rattle.base.proofs.ChoiceLaws.{denies}
 use Rattle.base.proofs.OptionLaws.{some-injective}
-use Rattle.align.proofs.Laws.{basic_holds, least_k, no_k, none_stands, basic_first, none_basic, finds_at, wanted_basic}
+use Rattle.align.proofs.Laws.{basic_holds, pair_holds, pair_below, none_stands, basic_first, none_basic, finds_at, wanted_basic}
 use Rattle.align.proofs.find.Goals as goal
-use Rattle.align.proofs.find.Goals.{then-basic+in_default, else-basic}
+use Rattle.align.proofs.find.Goals.{then-basic+else-loop-k-test, else-basic}
 
 -- no place before p is wanted, and what is noted is the first place with basic alignment
 module _ (s : List ℕ) (p : ℕ) (first : Option ℕ) (before : (q : ℕ) → q < p → Wanted s (is_some first) q → ⊥)
@@ -71,42 +71,50 @@ onward_before s first known p₀ p e before between q l w =
 pub returns-in-Some : goal.returns-in-Some
 returns-in-Some c =
     let s = c.args.s.now in
-    let before = onward_before s c.loop-p.first _ c.loop-p.p _ c.is_some.ensures c.loop-p.invariant.1 c.onward-p.ensures.2 in
-    ap (found None) (sym c.in-Some.is) ∙ nowhere s c.onward-p.result c.loop-p.first before c.loop-p.invariant.2 (omega arith)
+    let before = onward_before s c.search.first _ c.search.p _ c.is_some.ensures c.search.invariant.1 c.onward-p.ensures.2 in
+    ap (found None) (sym c.in-Some.is) ∙ nowhere s c.onward-p.result c.search.first before c.search.invariant.2 (omega arith)
 
 pub returns-in-None : goal.returns-in-None
 returns-in-None c =
     let s = c.args.s.now in
-    let before = onward_before s c.loop-p.first _ c.loop-p.p _ c.is_some.ensures c.loop-p.invariant.1 c.onward-p.ensures.2 in
-    ap (found None) (sym c.in-None.is) ∙ nowhere s c.onward-p.result c.loop-p.first before c.loop-p.invariant.2 (omega arith)
+    let before = onward_before s c.search.first _ c.search.p _ c.is_some.ensures c.search.invariant.1 c.onward-p.ensures.2 in
+    ap (found None) (sym c.in-None.is) ∙ nowhere s c.onward-p.result c.search.first before c.search.invariant.2 (omega arith)
 
-pub returns-in-Some-least_k : goal.returns-in-Some-least_k
-returns-in-Some-least_k c =
+pub loop-k-init : goal.loop-k-init
+loop-k-init c = (omega arith, λ j l h. absurd (omega arith))
+
+pub loop-k-preserved : goal.loop-k-preserved
+loop-k-preserved c =
+    let k = c.loop-k.k in
+    (omega arith, below_more _ k c.loop-k.invariant.1 (denies (pair_holds c.args.s.now c.onward-p.result k) (sym c.pair.ensures ∙ c.if-pair.false)))
+
+pub returns-then-pair : goal.returns-then-pair
+returns-then-pair c =
     let s = c.args.s.now in
     let p = c.onward-p.result in
-    let before = onward_before s c.loop-p.first _ c.loop-p.p p c.is_some.ensures c.loop-p.invariant.1 c.onward-p.ensures.2 in
-    let k = (least_k s p c.in-Some-least_k.k).0 (sym c.in-Some-least_k.ensures) in
-    let w : Stands s p c.in-Some-least_k.k = record {
+    let k = c.loop-k.k in
+    let before = onward_before s c.search.first _ c.search.p p c.is_some.ensures c.search.invariant.1 c.onward-p.ensures.2 in
+    let w : Stands s p k = record {
       room = omega arith;
       basic = (basic_holds s p).0 (sym c.basic.ensures ∙ c.if-basic.true);
-      pair = k.0;
-      least = k.1;
+      pair = (pair_holds s p k).0 (sym c.pair.ensures ∙ c.if-pair.true);
+      least = c.loop-k.invariant.1;
     } in
-    sym ((finds_at s p c.in-Some-least_k.k).1 (record { stands = w; before = λ q j h. none_before s p c.loop-p.first before c.loop-p.invariant.2 q h j }))
+    sym ((finds_at s p k).1 (record { stands = w; before = λ q j h. none_before s p c.search.first before c.search.invariant.2 q h j }))
 
-pub loop-p-preserved : goal.loop-p-preserved
-loop-p-preserved c =
+pub search-preserved : goal.search-preserved
+search-preserved c =
     let s = c.args.s.now in
     let p = c.onward-p.result in
-    let first = c.loop-p.first in
-    let before = onward_before s first _ c.loop-p.p p c.is_some.ensures c.loop-p.invariant.1 c.onward-p.ensures.2 in
-    let noted = c.loop-p.invariant.2 in
+    let first = c.search.first in
+    let before = onward_before s first _ c.search.p p c.is_some.ensures c.search.invariant.1 c.onward-p.ensures.2 in
+    let noted = c.search.invariant.2 in
     let room : p + 16384 ≤ 8 * length s = omega arith in
     elim c.if-basic.branch [
-      | then-basic+in_default w ↦
+      | then-basic+else-loop-k-test w ↦
           let e : c.if-basic.first ≡ option_or first (Some p) = w.first-is ∙ w.or-first.ensures in
           let basic = (basic_holds s p).0 (sym c.basic.ensures ∙ w.if-basic.true) in
-          let unpaired : (k : ℕ) → Pair s p k → ⊥ = (no_k s p).0 (sym w.in_default.ensures) in
+          let unpaired : (k : ℕ) → Pair s p k → ⊥ = λ k h. w.loop-k.invariant.1 k (omega (arith, pair_below s p k h)) h in
           (omega arith, rw e (past_basic s p first before noted room basic unpaired), rw e (noted_basic s p first before noted room basic unpaired))
       | else-basic w ↦
           let other = denies (basic_holds s p) (sym c.basic.ensures ∙ w.if-basic.false) in
