@@ -280,15 +280,18 @@ fn lacks_room(payload: usize, slot0: usize, n: usize) -> bool
     (payload < 496 * n) | (slot0 < 16 * n)
 }
 
+// The three that are lent stay parameters: of a struct that lends them a clause would say what each becomes as
+// `lent.exit.1.1.0.now`, which is no plainer.
+
 // an image that ends with the chunk: one look
 fn take_image(
     c: Line,
     image: &[u8],
-    window: &mut [u8],
+    window: &mut [u8; 2048],
     payload: &mut [u8],
     slot0: &mut [u8],
 ) -> Result<Took, Refused>
-    requires { Small c (2 ^ 40) × (length image.now ≤ 2 ^ 30) × (length window.old ≡ 2048) }
+    requires { Small c (2 ^ 40) × (length image.now ≤ 2 ^ 30) }
     ensures { Takes (grown c image.now) window.old payload.old slot0.old
         result window.new payload.new slot0.new }
 {
@@ -310,11 +313,11 @@ fn take_joined<const N: usize>(
     c: Line,
     fill: usize,
     chunk: &[u8],
-    window: &mut [u8],
+    window: &mut [u8; 2048],
     payload: &mut [u8],
     slot0: &mut [u8],
 ) -> Result<Took, Refused>
-    requires { Small c (2 ^ 40) × (length window.old ≡ 2048) × (fill ≤ 2048) × (fill + length chunk.now ≤ N) × (N ≤ 4096) }
+    requires { Small c (2 ^ 40) × (fill ≤ 2048) × (fill + length chunk.now ≤ N) × (N ≤ 4096) }
     ensures { Takes (fed c (take fill window.old) chunk.now)
         window.old payload.old slot0.old
         result window.new payload.new slot0.new }
@@ -347,11 +350,11 @@ fn take_two(
     near: &[u8],
     x: Seen,
     far: &[u8],
-    window: &mut [u8],
+    window: &mut [u8; 2048],
     payload: &mut [u8],
     slot0: &mut [u8],
 ) -> Result<Took, Refused>
-    requires { Small c (2 ^ 39) × (length near.now ≤ 2 ^ 30) × (length far.now ≤ 2 ^ 30) × (length window.old ≡ 2048)
+    requires { Small c (2 ^ 39) × (length near.now ≤ 2 ^ 30) × (length far.now ≤ 2 ^ 30)
         × Looks (grown c near.now) near.now x }
     ensures { Takes (after (grown c near.now) (grown x.line far.now))
         window.old payload.old slot0.old
@@ -389,11 +392,11 @@ fn take_far(
     near: &[u8],
     n: usize,
     chunk: &[u8],
-    window: &mut [u8],
+    window: &mut [u8; 2048],
     payload: &mut [u8],
     slot0: &mut [u8],
 ) -> Result<Took, Refused>
-    requires { Small c (2 ^ 39) × (length window.old ≡ 2048) × (fill ≤ 2048)
+    requires { Small c (2 ^ 39) × (fill ≤ 2048)
         × (n ≤ 2048) × (n ≤ length chunk.now) × (length chunk.now ≤ 2 ^ 30)
         × (near.now ≡ take fill window.old ++ take n chunk.now)
         × (length (grown c near.now).window ≤ n) }
@@ -410,11 +413,11 @@ fn take_long(
     c: Line,
     fill: usize,
     chunk: &[u8],
-    window: &mut [u8],
+    window: &mut [u8; 2048],
     payload: &mut [u8],
     slot0: &mut [u8],
 ) -> Result<Took, Refused>
-    requires { Small c (2 ^ 39) × (length window.old ≡ 2048) × (fill ≤ 2048)
+    requires { Small c (2 ^ 39) × (fill ≤ 2048)
         × (2048 ≤ length chunk.now) × (length chunk.now ≤ 2 ^ 30) }
     ensures { Takes (fed c (take fill window.old) chunk.now)
         window.old payload.old slot0.old
@@ -511,11 +514,11 @@ fn take_both(
     near: &[u8],
     x: Tracked,
     far: &[u8],
-    window: &mut [u8],
+    window: &mut [u8; 2048],
     payload: &mut [u8],
     slot0: &mut [u8],
 ) -> Result<Took, Refused>
-    requires { Small c (2 ^ 39) × (length near.now ≤ 2 ^ 30) × (length far.now ≤ 2 ^ 30) × (length window.old ≡ 2048)
+    requires { Small c (2 ^ 39) × (length near.now ≤ 2 ^ 30) × (length far.now ≤ 2 ^ 30)
         × (q ≡ start_of c.found % 8) × Tracks near.now q (kept_of c.used) x × (x.loss ≡ None) × (1 ≤ x.used)
         × (1 ≤ whole far.now q) }
     ensures { Takes (after (read_from c near.now) (read_from (read_from c near.now).line far.now))
@@ -559,11 +562,11 @@ fn take_tracked(
     n: usize,
     x: Tracked,
     chunk: &[u8],
-    window: &mut [u8],
+    window: &mut [u8; 2048],
     payload: &mut [u8],
     slot0: &mut [u8],
 ) -> Result<Took, Refused>
-    requires { Small c (2 ^ 39) × Stood c × (length window.old ≡ 2048) × (fill ≤ 1024)
+    requires { Small c (2 ^ 39) × Stood c × (fill ≤ 1024)
         × (2048 ≤ fill + length chunk.now) × (length chunk.now ≤ 2 ^ 30)
         × (q ≡ start_of c.found % 8) × (fill + n ≡ 512 * ((fill + 511) / 512) + 513)
         × (near.now ≡ take fill window.old ++ take n chunk.now)
@@ -586,11 +589,11 @@ fn take_on(
     c: Line,
     fill: usize,
     chunk: &[u8],
-    window: &mut [u8],
+    window: &mut [u8; 2048],
     payload: &mut [u8],
     slot0: &mut [u8],
 ) -> Result<Took, Refused>
-    requires { Small c (2 ^ 39) × Stood c × (length window.old ≡ 2048) × (fill ≤ 1024)
+    requires { Small c (2 ^ 39) × Stood c × (fill ≤ 1024)
         × (2048 ≤ fill + length chunk.now) × (length chunk.now ≤ 2 ^ 30) }
     ensures { Takes (fed c (take fill window.old) chunk.now)
         window.old payload.old slot0.old
@@ -618,11 +621,11 @@ pub fn take(
     c: Line,
     fill: usize,
     chunk: &[u8],
-    window: &mut [u8],
+    window: &mut [u8; 2048],
     payload: &mut [u8],
     slot0: &mut [u8],
 ) -> Result<Took, Refused>
-    requires { Small c 134217728 × (length window.old ≡ 2048) × (fill ≤ 2048) × (length chunk.now ≤ 16777216) }
+    requires { Small c 134217728 × (fill ≤ 2048) × (length chunk.now ≤ 16777216) }
     ensures { Takes (fed c (take fill window.old) chunk.now)
         window.old payload.old slot0.old
         result window.new payload.new slot0.new }

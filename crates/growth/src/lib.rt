@@ -13,6 +13,7 @@ pub struct Line {
     pub before: usize,
     pub found: Found,
     pub used: usize,
+    // a number, not an option: one of the twelve that C keeps of a stream (KIT §10)
     pub lost: usize,
     pub words: usize,
     pub errored: usize,

@@ -5,10 +5,10 @@ use mathlib.Core.Path.{◌≡◌, refl, sym, ap, ap₂, ◌∙◌}
 use mathlib.Core.Bool.{Bool, true, false, not, ◌||◌}
 use mathlib.Core.List.{List, [], ◌∷◌}
 use Rattle.std.specs.List.{list_any}
-use Rattle.std.proofs.Math.Bool.{or_assoc, or-false}
+use Rattle.std.proofs.Math.Bool.{or_assoc, or-false, or-true}
 use mathlib.Mathlib.Data.Bool.Basic.{or-eq-false-eq-eq-false-and-eq-false}
 use native.Mathlib.Omega.{arith}
-use borrow.Author.Tests.{ltb-false, eqb-true, not-false}
+use borrow.Author.Tests.{ltb-false, ne_eqb}
 use lib.Dec.{eqb, ltb}
 use lib.ListN.{length}
 use Rattle.base.specs.Answer.{accepted}
@@ -102,12 +102,17 @@ over_is st p k large ep ek e =
 
 -- A chunk
 
--- where it is not refused for the stream or its window
-pub open_to : (st : Stream) (w : List ℕ) → is_over st || not (eqb (length w) 2048) ≡ false
-    → (is_over st ≡ false) × (length w ≡ 2048) × Sound st
-open_to st w e =
-    let h = either (is_over st) (not (eqb (length w) 2048)) e in
-    (h.0, eqb-true (length w) 2048 (not-false _ h.1), sound st h.0)
+-- whether it is refused for the stream or its window
+
+module _ (st : Stream) (w : List ℕ) where
+  pub shut : is_over st ≡ true → is_over st || not (eqb (length w) 2048) ≡ true
+  shut e = rw e
+
+  pub narrow : (length w ≡ 2048 → ⊥) → is_over st || not (eqb (length w) 2048) ≡ true
+  narrow n = rw (ne_eqb (length w) 2048 n) (or-true (is_over st))
+
+  pub opened : is_over st ≡ false → length w ≡ 2048 → is_over st || not (eqb (length w) 2048) ≡ false
+  opened e l = rw (e, l)
 
 module _ (st : Stream) (w t payload slot0 : List ℕ) where
   abbrev number : ℕ

@@ -93,9 +93,12 @@ impl Stream {
         ensures { Feeds self.old window.old chunk.now payload.old slot0.old
             (fed_answer self.new result) window.new payload.new slot0.new }
     {
-        if self.is_over() | (window.len() != 2048) {
+        if self.is_over() {
             return Err(Refused::Ended);
         }
+        let Some(window) = window.as_mut_array::<2048>() else {
+            return Err(Refused::Ended);
+        };
         if 16777216 < self.came() + chunk.len() {
             return Err(Refused::Endless);
         }

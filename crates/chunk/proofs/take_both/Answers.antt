@@ -9,20 +9,20 @@ use Rattle.chunk.proofs.take_both.Goals as goal
 pub track-y-requires : goal.track-y-requires
 track-y-requires c =
     let a = c.args in
-    let w : 1 ≤ c.whole.result = omega (arith, c.requires.8, whole_is a.far.now a.q, c.whole.ensures) in
+    let w : 1 ≤ c.whole.result = omega (arith, c.requires.7, whole_is a.far.now a.q, c.whole.ensures) in
     (record { countable = omega arith; there = omega (arith, c.whole.ensures) }, w)
 
 pub overflow_add-m : goal.overflow_add-m
 overflow_add-m c =
     let a = c.args in
-    let t = tracked_few a.near.now a.q (kept_of a.c.used) a.x c.requires.5 in
+    let t = tracked_few a.near.now a.q (kept_of a.c.used) a.x c.requires.4 in
     let u = tracked_few a.far.now a.q 1 c.track-y.result (tracks a.far.now a.q 1 c.whole.result c.track-y.result c.whole.ensures c.track-y.ensures) in
     omega (arith, t, u)
 
 pub lacks_room-requires : goal.lacks_room-requires
 lacks_room-requires c =
     let a = c.args in
-    let t = tracked_few a.near.now a.q (kept_of a.c.used) a.x c.requires.5 in
+    let t = tracked_few a.near.now a.q (kept_of a.c.used) a.x c.requires.4 in
     let u = tracked_few a.far.now a.q 1 c.track-y.result (tracks a.far.now a.q 1 c.whole.result c.track-y.result c.whole.ensures c.track-y.ensures) in
     omega (arith, t, u)
 
@@ -30,11 +30,11 @@ pub returns-then-lacks_room : goal.returns-then-lacks_room
 returns-then-lacks_room c =
     let a = c.args in
     let y = c.track-y.result in
-    let t = subst (λ h. Tracks a.near.now a.q h a.x) (sym c.kept-h.ensures) c.requires.5 in
+    let t = subst (λ h. Tracks a.near.now a.q h a.x) (sym c.kept-h.ensures) c.requires.4 in
     let u = tracks a.far.now a.q 1 c.whole.result c.track-y.result c.whole.ensures c.track-y.ensures in
     let gone = gone_of (length a.far.now) y.used y.loss in
     takes_as
-    (told_both a.c a.near.now a.q c.kept-h.result a.x c.requires.4 c.kept-h.ensures t c.requires.6 c.requires.7 a.far.now y u gone
+    (told_both a.c a.near.now a.q c.kept-h.result a.x c.requires.3 c.kept-h.ensures t c.requires.5 c.requires.6 a.far.now y u gone
     (lost_at (later_by (16 * (a.c.used + (a.x.used - c.kept-h.result) - 1)) y.loss)) refl refl _ refl)
     (not_taken a.window.now a.payload.now a.slot0.now _ (sym c.if-lacks_room.ensures))
 
@@ -42,14 +42,14 @@ pub read_both-line-requires : goal.read_both-line-requires
 read_both-line-requires c =
     let a = c.args in
     let r = c.requires in
-    let t = subst (λ h. Tracks a.near.now a.q h a.x) (sym c.kept-h.ensures) c.requires.5 in
+    let t = subst (λ h. Tracks a.near.now a.q h a.x) (sym c.kept-h.ensures) c.requires.4 in
     let u = tracks a.far.now a.q 1 c.whole.result c.track-y.result c.whole.ensures c.track-y.ensures in
-    (r.0, r.1, r.2, r.4, c.kept-h.ensures, t, r.6, r.7, u, c.gone_by-gone.ensures)
+    (r.0, r.1, r.2, r.3, c.kept-h.ensures, t, r.5, r.6, u, c.gone_by-gone.ensures)
 
 pub put_both-requires : goal.put_both-requires
 put_both-requires c =
     let a = c.args in
-    let t = subst (λ h. Tracks a.near.now a.q h a.x) (sym c.kept-h.ensures) c.requires.5 in
+    let t = subst (λ h. Tracks a.near.now a.q h a.x) (sym c.kept-h.ensures) c.requires.4 in
     let u = tracks a.far.now a.q 1 c.whole.result c.track-y.result c.whole.ensures c.track-y.ensures in
     let near = tracked_room a.near.now a.q c.kept-h.result a.x t c.requires.1 (omega (arith, t.at_most)) in
     let far = tracked_room a.far.now a.q 1 c.track-y.result u c.requires.2 (omega (arith, u.at_least, u.at_most)) in
@@ -63,7 +63,7 @@ put_both-requires c =
 pub overflow_add-result : goal.overflow_add-result
 overflow_add-result c =
     let a = c.args in
-    let t = tracked_few a.near.now a.q (kept_of a.c.used) a.x c.requires.5 in
+    let t = tracked_few a.near.now a.q (kept_of a.c.used) a.x c.requires.4 in
     let u = tracked_few a.far.now a.q 1 c.track-y.result (tracks a.far.now a.q 1 c.whole.result c.track-y.result c.whole.ensures c.track-y.ensures) in
     omega (arith, t, u)
 
@@ -71,12 +71,12 @@ pub returns : goal.returns
 returns c =
     let a = c.args in
     let y = c.track-y.result in
-    let t = subst (λ h. Tracks a.near.now a.q h a.x) (sym c.kept-h.ensures) c.requires.5 in
+    let t = subst (λ h. Tracks a.near.now a.q h a.x) (sym c.kept-h.ensures) c.requires.4 in
     let u = tracks a.far.now a.q 1 c.whole.result c.track-y.result c.whole.ensures c.track-y.ensures in
     let gone = c.gone_by-gone.result in
     let line = c.read_both-line.result in
     takes_as
-    (told_both a.c a.near.now a.q c.kept-h.result a.x c.requires.4 c.kept-h.ensures t c.requires.6 c.requires.7 a.far.now y u gone
+    (told_both a.c a.near.now a.q c.kept-h.result a.x c.requires.3 c.kept-h.ensures t c.requires.5 c.requires.6 a.far.now y u gone
     (lost_at (later_by (16 * (a.c.used + (a.x.used - c.kept-h.result) - 1)) y.loss)) c.gone_by-gone.ensures refl line c.read_both-line.ensures)
     (taken_two a.window.now a.payload.now a.slot0.now a.near.now a.far.now (near_seen a.c a.near.now a.q c.kept-h.result a.x)
     (record { line = line; gone = gone; multiframes = y.used - 1; from = a.q + 4096 })

@@ -19,9 +19,8 @@ take_tracked-requires c =
       r.2,
       r.3,
       r.4,
-      r.5,
       ap (λ n. n % 8) c.start-q.ensures,
-      omega (arith, (next_holds a.fill r.3).0),
+      omega (arith, (next_holds a.fill r.2).0),
       c.join-e.ensures.2,
       subst (λ h. Tracks near q h c.track-x.result) c.kept.ensures
           (tracks near q c.kept.result c.whole.result c.track-x.result
