@@ -10,7 +10,7 @@ use native.Mathlib.Omega.{arith}
 use lib.Dec.{lit<, eqb, leb, ltb}
 use lib.ListN.{length, get_or, take}
 use lib.Seq.{get_or-take}
-use borrow.Author.Tests.{ne_eqb, eqb-true, leb-true, le-leb, ltb-false, not-false}
+use borrow.Author.Tests.{eqb-true, leb-true, le-leb, ltb-false, not-false}
 use Rattle.base.specs.Answer.{accepted, among}
 use Rattle.base.proofs.AnswerLaws.{accepted_not, first_listed, first_tells}
 use Rattle.exchange.specs.declared.State.{State}
@@ -61,20 +61,6 @@ keyed_entry s p = answered_entry s (key_after s p) 0 (key_refusal p) ∙ either 
     either : (n : ℕ) → accepted {A = ℕ} n 0 0 ≡ 0
     either zero = refl
     either (suc n) = refl
-
--- the key to 1, to 0, and anywhere else
-module _ (s : State) (p : ℕ) where
-  pub key_to_1 : p ≡ 1 → keyed s p ≡ accept (key_on s) 0
-  unfolding key_refusal
-  key_to_1 e = rw e
-
-  pub key_to_0 : p ≡ 0 → keyed s p ≡ accept (key_off s) 0
-  unfolding key_refusal
-  key_to_0 e = rw e
-
-  pub key_elsewhere : (p ≡ 1 → ⊥) → (p ≡ 0 → ⊥) → keyed s p ≡ refuse s 13
-  unfolding key_refusal
-  key_elsewhere h k = rw (ne_eqb p 1 h, ne_eqb p 0 k)
 
 -- A refused call changes nothing, and its answer is zeros but for the number.
 

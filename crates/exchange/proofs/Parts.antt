@@ -5,28 +5,19 @@ use mathlib.Core.Path.{◌≡◌, refl, sym, ap, ap₂, ◌∙◌}
 use mathlib.Core.Bool.{true, and-eq-true_iff}
 use mathlib.Core.List.{List, ◌∷◌, ◌++◌, append_assoc}
 use native.Mathlib.Omega.{arith}
-use native.Mathlib.Numerals.{add-one}
-use lib.ListN.{length, get_or, take, drop, set, length-append, length-drop}
+use lib.ListN.{length, get_or, take, drop}
 use lib.Seq.{take_at, drop_at, drop-drop, take-add, take-length, length-take-le}
 use lib.Dec.{eqb}
 use borrow.Author.Tests.{eqb-true, ne_eqb}
 use Rattle.base.specs.Tab.{tab_from, tab}
 use Rattle.base.proofs.TabLaws.{get_d_tab, tab_agree}
-use Rattle.base.proofs.PartLaws.{copy_more}
 use Rattle.e1.specs.Payload.{index_of, frame_of, slot_of, sized}
 use Rattle.exchange.proofs.Laws.{refused_mapping}
 use Rattle.exchange.specs.Mapping.{entry_used, entry_at, slot_octet, mapped_payload, map_refusal, Mapped}
 use Rattle.exchange.proofs.MapLaws.{entry_within, entry_small, octet_of, mapped_length, mapped_append}
 use Rattle.exchange.proofs.MapLaws.{accepted_mapping}
 
--- a frame with 255 before its slots: one slot more of it, and its octet by an entry
-pub slots_more : (p xs : List ℕ) (j : ℕ) → j + 1 < length xs → j < length p → take (j + 1) xs ≡ take (j + 1) (255 ∷ p)
-    → take (j + 1 + 1) (set xs (j + 1) (get_or p j 0)) ≡ take (j + 1 + 1) (255 ∷ p)
-slots_more p xs j h l e =
-    let k : j + 1 < length (255 ∷ p) = omega arith in
-    let v : get_or p j 0 ≡ get_or (255 ∷ p) (j + 1) 0 = rw add-one in
-    rw v (copy_more xs (255 ∷ p) (j + 1) h k e)
-
+-- a frame with 255 before its slots: its octet by an entry
 slot_of_entry : (p : List ℕ) (e : ℕ) → get_or (255 ∷ p) e 0 ≡ (if eqb e 0 then 255 else get_or p (index_of 0 e) 0)
 slot_of_entry p zero = refl
 slot_of_entry p (suc e) = let i : index_of 0 (suc e) ≡ e = omega arith in rw (ne_eqb (suc e) 0 (λ q. omega arith), i)
@@ -81,12 +72,6 @@ module _ (m p d : List ℕ) where
   pub done_none : d ≡ done 0
   unfolding mapped_payload tab_from
   done_none = refl
-
-  pub done_length : (k : ℕ) → 31 * k ≤ length p → 31 * k ≤ length d → length (done k) ≡ length d
-  done_length k h l =
-      length-append (mapped_payload m (take (31 * k) p)) (drop (31 * k) d)
-      ∙ ap₂ (λ a b. a + b) (mapped_length m (take (31 * k) p) ∙ length-take-le (31 * k) p h) (length-drop (31 * k) d)
-      ∙ omega arith
 
   -- the contract, of a refused call and of all frames
   pub refused : (n : ℕ) → (n ≡ 0 → ⊥) → n ≡ map_refusal p d → Mapped m p d n d
