@@ -23,9 +23,8 @@ impl Found {
         ensures { result ≡ place_of self }
     {
         match self {
-            Found::At { place, k: _ } => place,
-            Found::BasicAt { place } => place,
-            _ => 0,
+            Found::At { place, .. } | Found::BasicAt { place } => place,
+            Found::Nothing => 0,
         }
     }
 
@@ -33,7 +32,7 @@ impl Found {
         ensures { result ≡ k_of self }
     {
         match self {
-            Found::At { place: _, k } => k,
+            Found::At { k, .. } => k,
             _ => 0,
         }
     }
@@ -219,14 +218,14 @@ fn paired(s: &[u8], i: usize) -> u64
 
 // the places that the search has to look at, among those with basic alignment: all of them, or, once one is known, those
 // with a pair of signals
-fn wanted(s: &[u8], i: usize, basic: u64, known: bool) -> u64
-    requires { Room s.now (8 * i) 16384 × Holds (Basic s.now) i 63 basic }
-    ensures { Holds (Wanted s.now known) i 63 result }
+fn wanted(s: &[u8], hit: Hit, known: bool) -> u64
+    requires { Room s.now (8 * hit.octet) 16384 × Holds (Basic s.now) hit.octet 63 hit.places }
+    ensures { Holds (Wanted s.now known) hit.octet 63 result }
 {
     if !known {
-        return basic;
+        return hit.places;
     }
-    basic & paired(s, i)
+    hit.places & paired(s, hit.octet)
 }
 
 // past places that the search need not look at, from an octet's start on
@@ -241,7 +240,7 @@ fn onward(s: &[u8], p: usize, end: usize, known: bool) -> usize
     }
     let mut i = p / 8;
     while let Some(hit) = next_hit(s, i, end) {
-        let o = wanted(s, hit.octet, hit.places, known).leading_zeros() as usize;
+        let o = wanted(s, hit, known).leading_zeros() as usize;
         if o < 56 {
             return 8 * hit.octet + o;
         }
