@@ -86,8 +86,7 @@ fn replaced(payload: &[u8], signalling: &[u8]) -> [u8; 576]
     requires { (length payload.now ≡ 576) × OfBits signalling.now 96 }
     ensures { result ≡ with_signals payload.now signalling.now }
 {
-    let mut octets = [0; 576];
-    octets.copy_from_slice(payload);
+    let mut octets: [u8; 576] = payload.try_into().unwrap();
     for k in 0..4 {
         for j in 0..24 {
             let i = 144 * k + 120 + j;
