@@ -91,10 +91,8 @@ fn raw_on(s: &[u8], j: usize, at: u64, i: usize) -> u64
         return t1::raw::of(&s[i..i + 579]);
     }
     let mut r = at;
-    let mut k = j;
-    while k < i {
+    for k in (j..i).step_by(7) {
         r = t1::raw::slid(s, k, 56, r);
-        k += 7;
     }
     r
 }
