@@ -15,7 +15,7 @@ use Rattle.t1.specs.Raw.{raw}
 use Rattle.t1sliced.specs.Sliced.{Exactly, AgreesAt}
 use Rattle.t1align.specs.Place.{first_standing}
 use Rattle.t1align.specs.Stands.{Stands}
-use Rattle.t1align.specs.Window.{BothFramed, Passed}
+use Rattle.t1align.specs.Window.{BothFramed, NoneFramed}
 use Rattle.t1align.proofs.Laws.{first_stands, none_stands}
 use Rattle.t1align.proofs.Sets.{both_exactly, none_before, first_has}
 use Rattle.t1align.proofs.Parts.{part, stands_in_part}
@@ -32,11 +32,11 @@ pub nowhere : (s : List ℕ) (p : ℕ) → NoneBefore s p → 8 * length s < p +
 nowhere s p before end = sym ((none_stands s).1 (λ q h. before q (omega (arith, h.room)) h))
 
 -- no place of windows that are passed over stands, as it has not both signals
-pub none_passed : (s : List ℕ) (i at : ℕ) → NoneBefore s (8 * i) → Passed s i at → NoneBefore s (8 * at)
-none_passed s i at before passed q l h =
+pub none_passed : (s : List ℕ) (i at : ℕ) → NoneBefore s (8 * i) → NoneFramed s (8 * i) (8 * at) → NoneBefore s (8 * at)
+none_passed s i at before none q l h =
     elim (dec_lt q (8 * i)) [
       | yes g ↦ before q g h
-      | no g ↦ passed.none q (omega arith) l (h.first, h.second)
+      | no g ↦ none q (omega arith) l (h.first, h.second)
     ]
 
 -- in the window at octet i, whose places with both signals are known, and those that agree

@@ -1,4 +1,5 @@
 pub mod Laws
 mod Sets
 mod Parts
+mod Windows
 mod Firsts

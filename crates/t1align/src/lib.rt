@@ -55,11 +55,11 @@ fn signals(part: &[u8]) -> u64
     most & sevens(&part[579..1158])
 }
 
-// the first window from octet i on that has such places, with these, or one past the end; four windows go by for each
-// look at the end, as long as there are four
-fn onward(s: &[u8], i: usize, end: usize) -> Candidates
-    requires { (length s.now < 2 ^ 60) × (end ≡ length s.now + 1 - 1158) × (i < end) }
-    ensures { FirstWindow s.now i end result.at result.places }
+// the first window from octet i on that has such places, with these; four windows go by for each look at the end, as long
+// as there are four
+fn onward(s: &[u8], i: usize, end: usize) -> Option<Candidates>
+    requires { (length s.now < 2 ^ 60) × (end ≡ length s.now + 1 - 1158) × (i < end + 7) }
+    ensures { FirstWindow s.now i end result }
 {
     let mut k = i;
     while k + 21 < end {
@@ -67,19 +67,18 @@ fn onward(s: &[u8], i: usize, end: usize) -> Candidates
             let at = k + 7 * w;
             let places = signals(&s[at..at + 1158]);
             if places != 0 {
-                return Candidates { at, places };
+                return Some(Candidates { at, places });
             }
         }
         k += 28;
     }
-    while k < end {
-        let places = signals(&s[k..k + 1158]);
+    for at in (k..end).step_by(7) {
+        let places = signals(&s[at..at + 1158]);
         if places != 0 {
-            return Candidates { at: k, places };
+            return Some(Candidates { at, places });
         }
-        k += 7;
     }
-    Candidates { at: k, places: 0 }
+    None
 }
 
 // from that at octet j of the image, that at octet i, some windows on: slid where that is less work
@@ -109,20 +108,15 @@ pub fn find(s: &[u8]) -> Option<usize>
     let mut at = 0;
     let mut raw = t1::raw::of(&s[0..579]);
     let mut i = 0;
-    while i < end {
-        let c = onward(s, i, end);
-        if c.places == 0 {
-            return None;
-        }
-        i = c.at;
-        raw = raw_on(s, at, raw, i);
-        at = i;
-        let o = u64::leading_zeros(c.places & t1sliced::agreeing(&s[i..i + 1158], raw)) as usize;
+    while let Some(c) = onward(s, i, end) {
+        raw = raw_on(s, at, raw, c.at);
+        at = c.at;
+        let o = u64::leading_zeros(c.places & t1sliced::agreeing(&s[at..at + 1158], raw)) as usize;
         if o < 56 {
-            let p = 8 * i + o;
+            let p = 8 * at + o;
             return (p + 9264 <= 8 * s.len()).then_some(p);
         }
-        i += 7;
+        i = at + 7;
     }
     None
 }
