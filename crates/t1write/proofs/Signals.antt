@@ -61,6 +61,10 @@ pub record Replacing (p g xs : List ℕ) (e : ℕ) : Type 0 where
   pub rest : (i : ℕ) → e ≤ i → get_or xs i 0 ≡ get_or p i 0
 
 module _ (p g : List ℕ) where
+  pub none_replaced : (xs : List ℕ) → xs ≡ p → Replacing p g xs 0
+  none_replaced xs e =
+      record { long = ap length e; done = λ i h. absurd (omega arith); rest = λ i h. ap (λ x. get_or x i 0) e }
+
   -- five frames in which nothing is
   pub five_kept : (xs : List ℕ) (k e : ℕ) → e ≡ 144 * k + 120 → Replacing p g xs (144 * k) → Replacing p g xs e
   five_kept xs k e ee r =

