@@ -87,10 +87,7 @@ fn replaced(payload: &[u8], signalling: &[u8]) -> [u8; 576]
     ensures { result ≡ with_signals payload.now signalling.now }
 {
     let mut octets = [0; 576];
-    // (b) copy_from_slice and try_into leave the zeros to be written first: 2 % of a call
-    for i in 0..576 {
-        octets[i] = payload[i];
-    }
+    octets.copy_from_slice(payload);
     for k in 0..4 {
         for j in 0..24 {
             let i = 144 * k + 120 + j;

@@ -1,10 +1,7 @@
--- The octets are copied, and then, at the heads of the two loops, those before 144k and before 144k + 120 + j have their bits replaced.
-use Rattle.std.proofs.Common.{◌≡◌, ◌+◌, ◌*◌, take, length}
+-- At the heads of the two loops the octets before 144k and before 144k + 120 + j have their bits replaced.
+use Rattle.std.proofs.Common.{◌+◌, ◌*◌}
 use Rattle.t1write.proofs.Signals.{Replacing}
 use Rattle.t1write.proofs.replaced.Given as goal
-
-abbrev pub invariant-loop-i : goal.invariant-loop-i
-invariant-loop-i l = (length l.octets ≡ 576) × (take l.i l.octets ≡ take l.i l.payload)
 
 abbrev pub invariant-loop-k : goal.invariant-loop-k
 invariant-loop-k l = Replacing l.payload l.signalling l.octets (144 * l.k)
