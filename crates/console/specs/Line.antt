@@ -11,7 +11,7 @@ abbrev pub octet_count : Asked → ℕ
 octet_count (Key p) = 0
 octet_count (Host n) = n
 octet_count Boundary = 0
-octet_count (Show c) = 0
+octet_count (Show s) = 0
 octet_count Picture = 0
 octet_count (Wrong w) = 0
 octet_count Nothing = 0

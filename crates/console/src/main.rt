@@ -9,30 +9,29 @@ ghost use Rattle.std.specs.Prelude.{◌≤◌, length};
 ghost use Rattle.io.specs.Counts.{IsPrefixLen};
 ghost use Rattle.console.specs.Line.{octet_count, Follows};
 
-use exchange::{Answered, State};
+use base::Refused;
+use exchange::State;
 use parse::Asked;
-use program::Source;
+use program::{Input, Kind, Program};
 use std::io::{IsTerminal, Read};
 use std::rt::Files;
 
-// the next octet of the input, or its end
-#[derive(Drop)]
-enum Came {
-    Octet(u8),
-    End,
-}
+const CONSOLE: Program<'static> = Program {
+    name: "console",
+    kind: Kind::E1,
+};
 
-// A read that fails ends the input too, and is said.
-fn next<S: Read, F: Read>(source: &mut Source<S, F>, name: &[u8]) -> Came {
+// the next octet of the input, if any; a read that fails ends the input too, and is said
+fn next(source: &mut impl Read, name: &[u8]) -> Option<u8> {
     let mut octet = [0u8; 1];
-    let got = program::read_once(source, &mut octet);
-    if got.n == 1 {
-        return Came::Octet(octet[0]);
+    match source.read(&mut octet) {
+        Ok(0) => None,
+        Ok(_) => Some(octet[0]),
+        Err(why) => {
+            CONSOLE.fail(name, why);
+            None
+        }
     }
-    if let Err(why) = got.ok {
-        program::fail(b"console", name, why);
-    }
-    Came::End
 }
 
 // a line of the input: how many of its octets are kept, and whether more may come behind it
@@ -43,90 +42,73 @@ struct Typed {
 }
 
 // Keeps what there is room for. Nothing says that a line ends, so its octets are counted.
-fn read_line<S: Read, F: Read>(source: &mut Source<S, F>, name: &[u8], line: &mut [u8]) -> Typed
+fn read_line(source: &mut impl Read, name: &[u8], line: &mut [u8]) -> Typed
     ensures { IsPrefixLen result.n line.new }
 {
     let mut n = 0;
     for _octet in 0..u64::MAX {
-        let Came::Octet(x) = next(source, name) else {
+        let Some(x) = next(source, name) else {
             break;
         };
         if x == b'\n' {
-            return Typed { n: n, more: true };
+            return Typed { n, more: true };
         }
         if n < line.len() {
             line[n] = x;
             n += 1;
         }
     }
-    Typed { n: n, more: false }
+    Typed { n, more: false }
 }
 
-// the answer to the call that a line asks for; a line that asks for none leaves the state as it is
-fn called(state: State, asked: Asked, octets: &[u8]) -> Answered
+// The call that a line asks for, and the entry that it reads. A line that asks for none leaves the state as it is.
+fn call(state: &mut State, asked: Asked, octets: &[u8]) -> Result<u8, Refused>
     requires { octet_count asked ≤ length octets.now }
-    ensures { Follows state result.state }
+    ensures { Follows state.old state.new }
 {
     match asked {
-        Asked::Key(position) => exchange::key(state, position),
-        Asked::Host(n) => exchange::host(state, &octets[..n]),
-        Asked::Boundary => exchange::boundary(state),
-        _ => Answered {
-            state: state,
-            number: 0,
-            entry: 0,
-        },
+        Asked::Key(position) => state.key(position).map(|_| 0),
+        Asked::Host(n) => state.host(&octets[..n]),
+        Asked::Boundary => {
+            state.boundary();
+            Ok(0)
+        }
+        _ => Ok(0),
     }
 }
 
-// the state that a line leaves, and whether another is wanted
-#[derive(Drop)]
-struct Turn {
-    state: State,
-    more: bool,
-}
-
-// No line over 80 octets is known, so one octet more is enough to know that it is longer. A last line without an end is
-// answered too. Only who types is prompted.
-fn play<S: Read + IsTerminal, F: Read + IsTerminal>(
+// A line is answered, and another may be wanted behind it. None over 80 octets is known, so one octet more is enough to
+// know that it is longer. A last line without an end is answered too. Only who types is prompted.
+fn play(
     rt: &(impl Files + Print),
-    state: State,
-    source: &mut Source<S, F>,
+    state: &mut State,
+    source: &mut (impl Read + IsTerminal),
     name: &[u8],
-) -> Turn
-    ensures { Follows state result.state }
+) -> bool
+    ensures { Follows state.old state.new }
 {
     let mut line = [0u8; 81];
     let mut octets = [0u8; 8];
-    let prompted = if program::is_terminal(source) {
-        program::print(rt, b"> ")
+    let before = *state;
+    let prompted = if source.is_terminal() {
+        print!(rt; "> ")
     } else {
         Ok(())
     };
     let typed = read_line(source, name, &mut line);
-    let n = typed.n;
-    let asked = parse::line(&line[..n], &mut octets);
-    let a = called(state, asked, &octets);
-    let ok = prompted.and(tell::answer(rt, state, a, asked, &octets, &line[..n]));
-    program::written(b"console", ok);
-    let after = a.state;
-    Turn {
-        state: after,
-        more: ok.is_ok() & typed.more & !parse::is_quit(asked),
-    }
+    let line = &line[..typed.n];
+    let asked = parse::line(line, &mut octets);
+    let answered = call(state, asked, &octets);
+    let ok = prompted.and(tell::answer(rt, &before, state, answered, asked, &octets, line));
+    CONSOLE.written(ok);
+    ok.is_ok() & typed.more & !matches!(asked, Asked::Quit)
 }
 
 // Nothing says that the input ends, so its lines are counted.
-fn dialogue<S: Read + IsTerminal, F: Read + IsTerminal>(
-    rt: &(impl Files + Print),
-    source: &mut Source<S, F>,
-    name: &[u8],
-) {
-    let mut state = exchange::start();
+fn dialogue(rt: &(impl Files + Print), source: &mut (impl Read + IsTerminal), name: &[u8]) {
+    let mut state = State::start();
     for _line in 0..u64::MAX {
-        let turn = play(rt, state, source, name);
-        state = turn.state;
-        if !turn.more {
+        if !play(rt, &mut state, source, name) {
             break;
         }
     }
@@ -134,9 +116,8 @@ fn dialogue<S: Read + IsTerminal, F: Read + IsTerminal>(
 
 fn main(rt: HostRuntime) {
     let mut path = io::buffer();
-    let input = program::open(&rt, b"console", 1, &mut path);
-    let n = input.n;
-    if let Some(mut source) = input.source {
+    if let Some(input) = CONSOLE.open(&rt, 1, &mut path) {
+        let Input { mut source, n } = input;
         dialogue(&rt, &mut source, &path[..n]);
     }
 }

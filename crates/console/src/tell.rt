@@ -1,187 +1,156 @@
 // What the console prints; each function answers whether it could, or why not.
 ghost use Rattle.std.specs.Prelude.{◌≤◌, length};
 
-use crate::parse::{Asked, COMMANDS, MAP, NO_OCTET, STATUS, TOO_LONG, UNKNOWN, second_word};
-use exchange::{Answered, State};
-use program::text::{skip, write_line};
-use program::{Printed, print, print_number, print_refusal};
+use crate::CONSOLE;
+use crate::parse::{Asked, COMMANDS, Shown, Wrong, second_word};
+use base::Refused;
+use exchange::State;
+use program::Printed;
 use std::rt::Files;
 
-fn refused(rt: &impl Print, number: u64) -> Printed {
-    print_number(rt, b"", number)
-        .and(print(rt, b": "))
-        .and(print_refusal(rt, number))
-        .and(print(rt, b"\n"))
+fn refused(rt: &impl Print, why: Refused) -> Printed {
+    let number = why.number();
+    let words = CONSOLE.kind.words(why);
+    println!(rt; "{number}: {words}")
 }
 
-fn key(rt: &impl Print, a: Answered) -> Printed {
-    let state = a.state;
-    if a.number != 0 {
-        return refused(rt, a.number);
+fn key(rt: &impl Print, is_on: bool) -> Printed {
+    if is_on {
+        return println!(rt; "0: the key is on");
     }
-    if state.flag {
-        return print(rt, b"0: the key is on\n");
-    }
-    print(
-        rt,
-        b"0: the key is off; nothing is staged, and nothing waits\n",
-    )
+    println!(rt; "0: the key is off; nothing is staged, and nothing waits")
 }
 
 // an entry of a map
 fn takes(rt: &impl Print, output: u8, input: u8) -> Printed {
-    let said = print_number(rt, b"output ", output as u64).and(print_number(
-        rt,
-        b" takes input ",
-        input as u64,
-    ));
-    if input == 0 {
-        return said.and(print(rt, b" (idle)\n"));
-    }
-    said.and(print(rt, b"\n"))
+    let idle = if input == 0 { " (idle)" } else { "" };
+    println!(rt; "output {output} takes input {input}{idle}")
 }
 
-// a host record
-fn host(rt: &impl Print, a: Answered, octets: &[u8]) -> Printed
+// a host record, and the entry that it reads
+fn host(rt: &impl Print, octets: &[u8], entry: u8) -> Printed
     requires { 8 ≤ length octets.now }
 {
-    if a.number != 0 {
-        return refused(rt, a.number);
-    }
     match octets[0] {
-        1 => print(rt, b"0: staged: ").and(takes(rt, octets[1], octets[2])),
-        2 => print(rt, b"0: committed: the staged map waits for the boundary\n"),
-        3 => print(rt, b"0: ").and(takes(rt, octets[1], a.entry)),
-        _ => print(rt, b"0: dropped: nothing is staged\n"),
+        1 => {
+            print!(rt; "0: staged: ")?;
+            takes(rt, octets[1], octets[2])
+        }
+        2 => println!(rt; "0: committed: the staged map waits for the boundary"),
+        3 => {
+            print!(rt; "0: ")?;
+            takes(rt, octets[1], entry)
+        }
+        _ => println!(rt; "0: dropped: nothing is staged"),
     }
 }
 
-fn boundary(rt: &impl Print, before: State) -> Printed {
+fn boundary(rt: &impl Print, before: &State) -> Printed {
     if before.pending {
-        return print(rt, b"0: boundary: the map that waited is live\n");
+        return println!(rt; "0: boundary: the map that waited is live");
     }
-    print(rt, b"0: boundary: no map waited, the live one stays\n")
+    println!(rt; "0: boundary: no map waited, the live one stays")
 }
 
-// an entry in a column of three
-fn cell(rt: &impl Print, entry: u8) -> Printed {
-    if entry < 10 {
-        return print_number(rt, b"  ", entry as u64);
+// entries of a map, in columns of three
+fn row(rt: &impl Print, label: &str, entries: &[u8]) -> Printed {
+    print!(rt; "{label}")?;
+    for entry in entries {
+        print!(rt; " {entry:>2}")?;
     }
-    print_number(rt, b" ", entry as u64)
+    println!(rt; "")
 }
 
-// the entries of the slots from..to of a map, which may not be there
-fn row(
-    rt: &impl Print,
-    label: &[u8],
-    there: bool,
-    map: &[u8; 32],
-    from: usize,
-    to: usize,
-) -> Printed
-    requires { (from ≤ to) × (to ≤ 32) }
-{
-    let mut ok = print(rt, label);
-    if !there {
-        return ok.and(print(rt, b" nothing\n"));
+// the same of a map that may not be there
+fn row_of(rt: &impl Print, label: &str, is_there: bool, entries: &[u8]) -> Printed {
+    if is_there {
+        return row(rt, label, entries);
     }
-    for slot in from..to {
-        ok = ok.and(cell(rt, map[slot]));
-    }
-    ok.and(print(rt, b"\n"))
+    println!(rt; "{label} nothing")
 }
 
 // the three maps under each other, for the slots from..to
-fn maps(rt: &impl Print, state: State, from: usize, to: usize) -> Printed
+fn maps(rt: &impl Print, state: &State, from: usize, to: usize) -> Printed
     requires { (from ≤ to) × (to ≤ 32) }
 {
-    let live = state.live;
-    let staged = state.staged;
-    let waiting = state.waiting;
-    row(rt, b"live   ", true, &live, from, to)
-        .and(row(rt, b"staged ", state.staging, &staged, from, to))
-        .and(row(rt, b"waiting", state.pending, &waiting, from, to))
+    row(rt, "live   ", &state.live[from..to])?;
+    row_of(rt, "staged ", state.staging, &state.staged[from..to])?;
+    row_of(rt, "waiting", state.pending, &state.waiting[from..to])
 }
 
-fn status(rt: &impl Print, state: State) -> Printed {
-    let said = if state.flag {
-        print(rt, b"the key is on\n")
-    } else {
-        print(rt, b"the key is off\n")
-    };
-    said.and(print(
-        rt,
-        b"output   1  2  3  4  5  6  7  8  9 10 11 12 13 14 15 16\n",
-    ))
-    .and(maps(rt, state, 1, 17))
-    .and(print(
-        rt,
-        b"output  17 18 19 20 21 22 23 24 25 26 27 28 29 30 31\n",
-    ))
-    .and(maps(rt, state, 17, 32))
+fn status(rt: &impl Print, state: &State) -> Printed {
+    let key = if state.flag { "on" } else { "off" };
+    println!(rt; "the key is {key}")?;
+    println!(rt; "output   1  2  3  4  5  6  7  8  9 10 11 12 13 14 15 16")?;
+    maps(rt, state, 1, 17)?;
+    println!(rt; "output  17 18 19 20 21 22 23 24 25 26 27 28 29 30 31")?;
+    maps(rt, state, 17, 32)
 }
 
-fn show(rt: &impl Print, state: State, command: usize) -> Printed {
-    let live = state.live;
-    match command {
-        MAP => row(rt, b"map", true, &live, 1, 32),
-        STATUS => status(rt, state),
-        _ => print(rt, &COMMANDS),
+fn show(rt: &impl Print, state: &State, what: Shown) -> Printed {
+    match what {
+        Shown::Map => row(rt, "map", &state.live[1..]),
+        Shown::Status => status(rt, state),
+        Shown::Help => {
+            for command in COMMANDS {
+                rt.println(command.help())?;
+            }
+            Ok(())
+        }
     }
 }
 
-fn wrong(rt: &impl Print, what: usize) -> Printed {
+fn wrong(rt: &impl Print, what: Wrong) -> Printed {
     match what {
-        UNKNOWN => print(rt, b"? no such command; help lists them\n"),
-        TOO_LONG => print(
-            rt,
-            b"? a line has at most 80 octets; help lists the commands\n",
-        ),
-        NO_OCTET => print(rt, b"? the octets of a record are 0 to 255; see help\n"),
-        _ => {
-            print(rt, b"? what follows the word is wrong; see help: ")
-                .and(write_line(rt, &COMMANDS, what as u64))
-                .and(print(rt, b"\n"))
+        Wrong::Unknown => println!(rt; "? no such command; help lists them"),
+        Wrong::TooLong => println!(rt; "? a line has at most 80 octets; help lists the commands"),
+        Wrong::NoOctet => println!(rt; "? the octets of a record are 0 to 255; see help"),
+        Wrong::Behind(command) => {
+            let help = command.help();
+            println!(rt; "? what follows the word is wrong; see help: {help}")
         }
     }
 }
 
 // the live map into the file of this name
-fn draw(rt: &impl Files, state: State, name: &[u8]) -> Printed {
+fn draw(rt: &impl Files, state: &State, name: &[u8]) -> Printed {
     drawing::map(program::create_file(rt, name)?, state)
 }
 
 // the live map into the file that a line names behind its word; where that fails, standard error says why
-fn picture(rt: &(impl Files + Print), state: State, line: &[u8]) -> Printed {
-    let a = second_word(line);
-    let e = skip(line, a, false);
-    if let Err(why) = draw(rt, state, &line[a..e]) {
-        program::fail(b"console", &line[a..e], why);
-        return print(rt, b"? the map is not drawn\n");
+fn picture(rt: &(impl Files + Print), state: &State, line: &[u8]) -> Printed {
+    let name = second_word(line);
+    if let Err(why) = draw(rt, state, name) {
+        CONSOLE.fail(name, why);
+        return println!(rt; "? the map is not drawn");
     }
-    print(rt, b"drawn: ")
-        .and(print(rt, &line[a..e]))
-        .and(print(rt, b"\n"))
+    print!(rt; "drawn: ")?;
+    rt.write_all(name)?;
+    println!(rt; "")
 }
 
-// the answer to a line, by the state before it and by what its call answered
+// the answer to a line, by the states before and behind its call, and by what that answered
 pub fn answer(
     rt: &(impl Files + Print),
-    before: State,
-    a: Answered,
+    before: &State,
+    state: &State,
+    answered: Result<u8, Refused>,
     asked: Asked,
     octets: &[u8],
     line: &[u8],
 ) -> Printed
     requires { 8 ≤ length octets.now }
 {
+    let entry = match answered {
+        Ok(entry) => entry,
+        Err(why) => return refused(rt, why),
+    };
     match asked {
-        Asked::Key(_) => key(rt, a),
-        Asked::Host(_) => host(rt, a, octets),
+        Asked::Key(_) => key(rt, state.flag),
+        Asked::Host(_) => host(rt, octets, entry),
         Asked::Boundary => boundary(rt, before),
-        Asked::Show(command) => show(rt, before, command),
-        Asked::Picture => picture(rt, before, line),
+        Asked::Show(what) => show(rt, state, what),
+        Asked::Picture => picture(rt, state, line),
         Asked::Wrong(what) => wrong(rt, what),
         Asked::Nothing | Asked::Quit => Ok(()),
     }
