@@ -5,71 +5,48 @@
 
 ghost use Rattle.std.specs.Prelude.{◌≤◌, length};
 
-// what was written of a line, or why nothing was
-fn answer(rt: &impl Print, number: u64, line: &[u8]) {
-    if number != 0 {
-        program::refused(b"frame", number);
-        return;
-    }
-    program::written(b"frame", program::print(rt, line));
-}
+use base::Refused;
+use program::{Kind, Program};
 
-// The check of the block before the first is 0.
-fn frame(rt: &impl Print, octets: &[u8])
+const FRAME: Program<'static> = Program {
+    name: "frame",
+    kind: Kind::E1,
+};
+
+// the line of n multiframes; the check of the block before the first is 0
+fn framed<'a>(octets: &[u8], line: &'a mut [u8; 8192]) -> Result<&'a [u8], Refused>
     requires { length octets.now ≤ 8065 }
 {
-    let n = octets.len() / 504;
-    if octets.len() != 504 * n {
-        program::refused(b"frame", 5);
-        return;
-    }
-    let a = 496 * n;
-    let e = 512 * n;
-    let mut line = [0u8; 8192];
-    let w = write::write(&octets[..a], &octets[a..], 0, &mut line);
-    answer(rt, w.number, &line[..e]);
+    let n = program::whole(octets, 504)?;
+    let (payload, overhead) = octets.split_at(496 * n);
+    write::write(payload, overhead, 0, line)?;
+    Ok(&line[..512 * n])
 }
 
 // the same with signalling
-fn frame_signalled(rt: &impl Print, octets: &[u8])
+fn framed_signalled<'a>(octets: &[u8], line: &'a mut [u8; 8192]) -> Result<&'a [u8], Refused>
     requires { length octets.now ≤ 8561 }
 {
-    let n = octets.len() / 535;
-    if octets.len() != 535 * n {
-        program::refused(b"frame", 5);
-        return;
-    }
-    let a = 496 * n;
-    let b = 504 * n;
-    let c = 505 * n;
-    let e = 512 * n;
-    let mut line = [0u8; 8192];
-    let w = signalled::write_signalled(
-        &octets[..a],
-        &octets[a..b],
-        0,
-        &octets[b..c],
-        &octets[c..],
-        &mut line,
-    );
-    answer(rt, w.number, &line[..e]);
+    let n = program::whole(octets, 535)?;
+    let (payload, rest) = octets.split_at(496 * n);
+    let (overhead, rest) = rest.split_at(8 * n);
+    let (xy, abcd) = rest.split_at(n);
+    signalled::write_signalled(payload, overhead, 0, xy, abcd, line)?;
+    Ok(&line[..512 * n])
 }
 
 // 16 multiframes take 8,064 octets, and 8,560 with signalling, so one octet more is enough to know that there are more.
 fn main(rt: HostRuntime) {
+    let mut line = [0u8; 8192];
     if program::is_first(&rt, b"--signalled") {
         let mut input = [0u8; 8561];
-        let taken = program::read(&rt, b"frame", 2, &mut input);
-        if taken.ok {
-            let n = taken.n;
-            frame_signalled(&rt, &input[..n]);
+        if let Some(n) = FRAME.read(&rt, 2, &mut input) {
+            FRAME.put(&rt, framed_signalled(&input[..n], &mut line));
         }
         return;
     }
     let mut input = [0u8; 8065];
-    let taken = program::read(&rt, b"frame", 1, &mut input);
-    if taken.ok {
-        let n = taken.n;
-        frame(&rt, &input[..n]);
+    if let Some(n) = FRAME.read(&rt, 1, &mut input) {
+        FRAME.put(&rt, framed(&input[..n], &mut line));
     }
 }
