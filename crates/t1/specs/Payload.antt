@@ -1,6 +1,7 @@
 -- The payload (KIT §15): the 24 octets of each frame, frame after frame, 576 octets a superframe.
-use Rattle.std.specs.Prelude.{ℕ, ◌+◌, ◌-◌, ◌*◌, ◌/◌, ◌%◌, Bool, ◌&&◌, List, eqb, leb, length}
+use Rattle.std.specs.Prelude.{ℕ, ◌+◌, ◌-◌, ◌*◌, ◌/◌, ◌%◌, Bool, List, length}
 use Rattle.line.specs.Bit.{bit_at}
+use Rattle.line.specs.Sized.{sized_by}
 
 -- the data bit at place i of the line that a payload p makes: bit i % 193 - 1 of the 192 that its frame takes of p
 unfoldable pub data_bit : List ℕ → ℕ → ℕ
@@ -12,4 +13,4 @@ superframes payload = length payload / 576
 
 -- it is 576n octets, n from 1 to 14
 unfoldable pub sized : ℕ → Bool
-sized octets = eqb (octets % 576) 0 && (leb 1 (octets / 576) && leb (octets / 576) 14)
+sized octets = sized_by 576 14 octets

@@ -58,6 +58,5 @@ pub fn check_by(at: u64, framing: u64) -> u64
 pub fn is_sized(octets: usize) -> bool
     ensures { result ≡ sized octets }
 {
-    let n = octets / 576;
-    (octets % 576 == 0) & ((1 <= n) & (n <= 14))
+    line::is_sized::<576, 14>(octets)
 }

@@ -1,9 +1,0 @@
--- `is_sized` meets its contract.
-use mathlib.Core.Path.{refl}
-use Rattle.t1.specs.Payload.{sized}
-use Rattle.t1.proofs.is_sized.Statement.{statement}
-use Rattle.t1.proofs.is_sized.Tie as tie
-
-pub is_sized_spec : {M : Type 1} → statement M
-unfolding sized
-is_sized_spec = tie.close (tie.spec (λ c. refl))
