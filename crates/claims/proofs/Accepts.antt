@@ -299,8 +299,8 @@ write_signalled_is p o c xy v m = (there, back)
             most = limited v (30 * n) t.abcd_octets (λ i l. (t.abcd_limited i l).1);
           };
         } in
-        sym (signalling.no_fault p o c xy v m (tells_first 0 (faults p o c) refl (r.0, (r.1.0, (r.1.1.0, tt)))) false false
-        (ap not (fits xy v n g)) r.1.1.1.0)
+        sym (signalling.sound p o c xy v m (sym (tells_first 0 (faults p o c) refl (r.0, (r.1.0, (r.1.1.0, tt))))) (fits xy v n g)
+        (ltb-false _ _ r.1.1.1.0))
 
 -- the tests of a record, kind by kind
 module _ (a b : ℕ) (flag staging : Bool) where

@@ -19,7 +19,7 @@ use Rattle.e1.specs.Frame.{frame_at}
 use Rattle.e1.specs.Block.{agrees}
 use Rattle.read.specs.Entry.{accept, start_in, used_in, Read}
 use Rattle.measure.specs.Reading.{wrong, word_errors, word_bits, compared, agrees_in, errored, zeros_e, far_end}
-use Rattle.read.specs.declared.Reading.{Reading}
+use Rattle.read.specs.Answer.{Reading}
 use Rattle.measure.proofs.LossLaws.{wrong_word}
 use Rattle.read.proofs.EntryLaws.{read_accepted, read_either}
 use Rattle.claims.specs.Counts.{Counted, Agrees, WrongWord, WrongBit, bit_e_at, FarError, Counts}

@@ -13,19 +13,19 @@ use Rattle.base.specs.Answer.{accepted}
 use Rattle.base.proofs.AnswerLaws.{accepted_so, first_listed}
 use Rattle.e1.specs.Payload.{multiframes}
 use Rattle.align.specs.Place.{place_of}
-use Rattle.align.specs.Why.{why_refusals, why_refusal}
-use Rattle.align.proofs.WhyLaws.{why_answers, why_refused}
+use Rattle.align.specs.Why.{why, why_refusals, why_refusal}
+use Rattle.align.proofs.WhyLaws.{why_answers, why_zeros}
 use Rattle.read.specs.Entry as reads
 use Rattle.read.specs.Entry.{start_in, used_in}
 use Rattle.measure.specs.Reading.{payload_of, slot0_of}
 use Rattle.measure.proofs.Laws.{payload_length, slot0_length}
 use Rattle.read.proofs.EntryLaws.{read_number, read_accepted, read_refused}
-use Rattle.read.specs.declared.Reading.{Reading}
+use Rattle.read.specs.Answer.{Reading}
 use Rattle.growth.proofs.Bounds.{grown_sizes}
 use Rattle.stream.specs.Entry.{is_over, grown_of, feed_refusals, feed_refusal, Feeds, end_refusals, end_refusal, ending}
 use Rattle.stream.specs.declared.Stream.{Stream}
-use Rattle.stream.specs.declared.Fed.{Fed}
-use Rattle.stream.specs.declared.Ended.{Ended}
+use Rattle.stream.specs.Answer.{Fed}
+use Rattle.stream.specs.Answer.{Ended}
 use Rattle.stream.proofs.EntryLaws.{with_21, ended_21}
 use Rattle.stream.proofs.RunLaws.{fed_number, fed_taken, fed_refused, end_number, end_refused, ended_by}
 use Rattle.write.specs.Entry as writes
@@ -35,14 +35,15 @@ use Rattle.write.proofs.Calls.{wrote_number, wrote_refused}
 use Rattle.signals.specs.Signalling.{abcd_in}
 use Rattle.signals.specs.Entry as signals
 use Rattle.signals.specs.Entry.{slot16_in, filled, Signalled}
-use Rattle.signals.specs.declared.Signalling.{Signalling}
+use Rattle.signals.specs.Answer.{Signalling}
 use Rattle.signals.proofs.EntryLaws.{abcd_length, signals_number, signals_accepted, signals_refused}
 use Rattle.signalled.specs.Entry as signalled
 use Rattle.signalled.specs.Slot16.{with_slot16}
 use Rattle.signalled.proofs.Calls as signalling
 use Rattle.exchange.specs.declared.State.{State}
 use Rattle.exchange.specs.Mapping.{entry_at, mapped_payload, mapped}
-use Rattle.exchange.specs.Machine.{accept, hosted, host_refusal, host_after, host_entry, between, outside, locked}
+use Rattle.exchange.specs.Answer.{accept}
+use Rattle.exchange.specs.Machine.{hosted, host_refusal, host_after, host_entry, between, outside, locked}
 use Rattle.exchange.specs.Machine.{unstaged}
 use Rattle.exchange.specs.Runs.{after_call}
 use Rattle.exchange.proofs.Laws as laws
@@ -126,7 +127,7 @@ demand_1 =
           (ap (λ b. b || not (eqb (length window) 2048)) (over_then st z));
       end_after_end = λ st z. end_number (ending st).stream ∙ ended_21 (ending st).stream (over_then st z);
       signals_refused = λ s out r out' n h e. signals_refused s out r out' n h e;
-      why_refused = λ s p n e. rw ((why_refused s p n).1 (sym (why_answers s p) ∙ e)) refl;
+      why_refused = λ s p n e. why_zeros (why s p) n e;
       write_refused = λ p o c out r out' n h e. wrote_refused n h e;
       write_signalled_refused = λ p o c xy v out r out' n h e. signalling.wrote_refused n h e;
       call_refused = laws.refused_changes_nothing;

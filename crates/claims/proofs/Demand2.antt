@@ -33,7 +33,7 @@ use Rattle.crc.proofs.Division.{check_divides, check_unique}
 use Rattle.align.proofs.Laws.{some_k, none_at_all, none_basic, basic_first, finds_at, finds_basic, finds_nothing}
 use Rattle.claims.proofs.Standard.{standard_single}
 use Rattle.claims.specs.Demand2.{Accepted, OneOf, Standard, zero_es, ReadBack, Demand2}
-use Rattle.read.specs.declared.Reading.{Reading}
+use Rattle.read.specs.Answer.{Reading}
 use Rattle.write.specs.Writing.{carries, written, overhead_of}
 use Rattle.write.specs.Inputs.{Inputs}
 use Rattle.write.proofs.Laws as writes
@@ -280,7 +280,7 @@ module _ (s payload slot0 : List ℕ) (r : Reading) (payload' slot0' : List ℕ)
     one_of_three : OneOf (r.number ≡ 3) (r.number ≡ 15) ((p : ℕ) × (k : ℕ) × Stands s p k)
     one_of_three =
         record {
-          Some = by (found_in s) refl;
+          some = by (found_in s) refl;
           not_ab = λ e f. omega arith;
           not_ac = λ e w. none_so.0 (inl e) w.0 w.1 w.2;
           not_bc = λ e w. none_so.0 (inr e) w.0 w.1 w.2;
@@ -295,7 +295,7 @@ pub demand_2 : Demand2
 demand_2 =
     record {
       reads = reads_so;
-      None = λ s payload slot0 r payload' slot0' good h. none_so s payload slot0 r payload' slot0' h good;
+      none = λ s payload slot0 r payload' slot0' good h. none_so s payload slot0 r payload' slot0' h good;
       none_at_all = λ s payload slot0 r payload' slot0' good h.
           Iff.trans (none_so s payload slot0 r payload' slot0' h good) (none_at_all s);
       no_basic = λ s payload slot0 r payload' slot0' good h. no_basic s payload slot0 r payload' slot0' h good;

@@ -7,7 +7,7 @@ use native.Mathlib.Omega.{arith}
 use Rattle.measure.specs.Reading.{word_loss, loss, lost_at, cause_of, used_of}
 use Rattle.measure.specs.Loss.{LostByWords, LostByBits2, LostBy, Loss}
 use Rattle.read.specs.Entry.{Read}
-use Rattle.read.specs.declared.Reading.{Reading}
+use Rattle.read.specs.Answer.{Reading}
 use Rattle.measure.proofs.LossLaws as laws
 use Rattle.claims.specs.Demand2.{Accepted}
 use Rattle.claims.specs.Losses.{ByWordsAlone, Losses}

@@ -4,25 +4,30 @@ use mathlib.Core.Path.{◌≡◌, refl, sym, ap, ◌∙◌}
 use mathlib.Core.List.{List}
 use mathlib.Core.Logic.{◌↔◌, ◌⊎◌}
 use lib.ListN.{length}
+use Rattle.std.specs.Prelude.{Result, Ok}
+use Rattle.base.specs.declared.Refused.{Refused}
 use Rattle.align.specs.Stands.{Basic, Pair, Stands}
-use Rattle.align.specs.Why.{why, why_number}
+use Rattle.align.specs.Why.{why, why_number, judged}
 use Rattle.align.specs.Says.{Says}
 use Rattle.align.specs.declared.Why.{Why}
 use Rattle.align.specs.declared.Why.TheVariants.{NoneFails, NoPair}
 use Rattle.align.proofs.Laws.{some_k, finds_basic, finds_nothing}
-use Rattle.align.proofs.WhyLaws.{asked, why_answers, why_says, why_stands, why_short, why_long, why_late}
+use Rattle.align.proofs.WhyLaws.{asked, why_answers, why_judged, why_says, why_stands, why_short, why_long, why_late}
 use Rattle.read.specs.Entry.{Read, GoodLength}
-use Rattle.read.specs.declared.Reading.{Reading}
+use Rattle.read.specs.Answer.{Reading}
 use Rattle.read.proofs.EntryLaws.{read_number, read_place, ready}
 use Rattle.claims.specs.Accepts.{ToAsk}
 use Rattle.claims.specs.Reasons.{FirstSaid, Reasons}
 use Rattle.claims.proofs.Accepts.{why_is}
 use Rattle.claims.proofs.Demand2.{found_none, found_only, none_so}
 
-says : (s : List ℕ) (p : ℕ) (w : Why) → ToAsk s p → why s p ≡ w ↔ Says s p w
+same_said : (v w : Why) → ◌≡◌ {A = Result Why Refused} (Ok v) (Ok w) → v ≡ w
+same_said v w e = cc
+
+says : (s : List ℕ) (p : ℕ) (w : Why) → ToAsk s p → why s p ≡ Ok w ↔ Says s p w
 says s p w t = why_says s p ((why_is s p).1 t) w
 
-stands : (s : List ℕ) (p k : ℕ) → GoodLength s → why s p ≡ NoneFails k ↔ Stands s p k
+stands : (s : List ℕ) (p k : ℕ) → GoodLength s → why s p ≡ Ok (NoneFails k) ↔ Stands s p k
 stands s p k good = why_stands s p good.long good.short k
 
 first : (s payload slot0 : List ℕ) (r : Reading) (payload' slot0' : List ℕ)
@@ -39,13 +44,13 @@ first s payload slot0 r payload' slot0' h z =
 
 nowhere : (s payload slot0 : List ℕ) (r : Reading) (payload' slot0' : List ℕ) → GoodLength s
     → Read s payload slot0 r payload' slot0'
-    → (r.number ≡ 3) ⊎ (r.number ≡ 15) ↔ ((p k : ℕ) → why s p ≡ NoneFails k → ⊥)
+    → (r.number ≡ 3) ⊎ (r.number ≡ 15) ↔ ((p k : ℕ) → why s p ≡ Ok (NoneFails k) → ⊥)
 nowhere s payload slot0 r payload' slot0' good h =
     let n = none_so s payload slot0 r payload' slot0' h good in
     (λ e p k w. n.0 e p k ((stands s p k good).0 w), λ g. n.1 (λ p k w. g p k ((stands s p k good).1 w)))
 
 -- of a place it is said that it has no pair exactly when it has room, basic alignment and none
-no_pair_said : (s : List ℕ) (p : ℕ) → why s p ≡ NoPair → (p + 16384 ≤ 8 * length s) × Basic s p
+no_pair_said : (s : List ℕ) (p : ℕ) → why s p ≡ Ok NoPair → (p + 16384 ≤ 8 * length s) × Basic s p
 unfolding Says
 no_pair_said s p e =
     let n = sym (why_answers s p) ∙ ap why_number e in
@@ -53,7 +58,7 @@ no_pair_said s p e =
 
 no_pair : (s payload slot0 : List ℕ) (r : Reading) (payload' slot0' : List ℕ)
     → Read s payload slot0 r payload' slot0' → r.number ≡ 15
-    → (why s r.place ≡ NoPair) × ((q : ℕ) → q < r.place → why s q ≡ NoPair → ⊥)
+    → (why s r.place ≡ Ok NoPair) × ((q : ℕ) → q < r.place → why s q ≡ Ok NoPair → ⊥)
 unfolding Says
 no_pair s payload slot0 r payload' slot0' h e =
     let f = found_only s payload slot0 r payload' slot0' h e in
@@ -66,7 +71,7 @@ no_pair s payload slot0 r payload' slot0' h e =
     )
 
 no_pair_nowhere : (s payload slot0 : List ℕ) (r : Reading) (payload' slot0' : List ℕ)
-    → Read s payload slot0 r payload' slot0' → r.number ≡ 3 → (p : ℕ) → why s p ≡ NoPair → ⊥
+    → Read s payload slot0 r payload' slot0' → r.number ≡ 3 → (p : ℕ) → why s p ≡ Ok NoPair → ⊥
 no_pair_nowhere s payload slot0 r payload' slot0' h e p w =
     let n = no_pair_said s p w in
     (finds_nothing s).0 (found_none s payload slot0 r payload' slot0' h e).1 p n.0 n.1
@@ -75,8 +80,8 @@ pub reasons : Reasons
 reasons =
     record {
       says = says;
-      one_holds = λ s p t. (why s p, (says s p (why s p) t).0 refl);
-      never_two = λ s p v w t hv hw. sym ((says s p v t).1 hv) ∙ (says s p w t).1 hw;
+      one_holds = λ s p t. (judged s p, (says s p (judged s p) t).0 (why_judged s p ((why_is s p).1 t)));
+      never_two = λ s p v w t hv hw. same_said v w (sym ((says s p v t).1 hv) ∙ (says s p w t).1 hw);
       stands = stands;
       short = why_short;
       long = why_long;

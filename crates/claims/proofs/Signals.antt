@@ -22,16 +22,16 @@ use Rattle.read.specs.Entry.{start_in, whole_in, used_in, Read}
 use Rattle.read.proofs.EntryLaws.{read_accepted}
 use Rattle.measure.specs.Reading.{whole, payload_of}
 use Rattle.measure.proofs.Laws.{slot_of_lem, payload_length}
-use Rattle.read.specs.declared.Reading.{Reading}
+use Rattle.read.specs.Answer.{Reading}
 use Rattle.measure.proofs.LossLaws.{used_le}
 use Rattle.write.specs.Writing.{written}
 use Rattle.write.specs.Inputs.{Inputs}
-use Rattle.write.specs.declared.Written.{Written}
+use Rattle.write.specs.Answer.{Written}
 use Rattle.write.proofs.Calls.{Fits, wrote_line}
 use Rattle.signals.specs.Signalling.{signal_at, aligns, Walk, begun, walk, starts_in, read_in, first_in, abcd_at, abcd_in}
 use Rattle.signals.specs.Lost.{Lost}
 use Rattle.signals.specs.Entry.{slot16_of, slot16_in, filled, accept, Signalled}
-use Rattle.signals.specs.declared.Signalling.{Signalling}
+use Rattle.signals.specs.Answer.{Signalling}
 use Rattle.signals.proofs.Laws.{aligns_later, taken_later, first_none, none_first}
 use Rattle.signals.proofs.Starts.{few_read, start_within}
 use Rattle.signals.proofs.LossLaws.{loses_at, searches_on, searches_until, takes, forgiven, start_begun}

@@ -20,7 +20,7 @@ use Rattle.read.specs.Entry.{GoodLength}
 use Rattle.read.proofs.EntryLaws.{placed_0}
 use Rattle.signals.specs.Signalling.{starts_in, read_in, first_in, losses_in, held_in, abcd_at, abcd_in, xy_in}
 use Rattle.signals.specs.Entry.{slot16_of, slot16_in, filled, refusal, accept, Signalled}
-use Rattle.signals.specs.declared.Signalling.{Signalling}
+use Rattle.signals.specs.Answer.{Signalling}
 use Rattle.signals.proofs.EntryLaws.{placed_then, signals_number, signals_accepted}
 use Rattle.signalled.specs.Slot16.{abcd_of, slot16, with_slot16}
 use Rattle.signalled.specs.Given.{Given}

@@ -1,14 +1,24 @@
 -- The proof of Single.
-use mathlib.Core.Path.{sym, ap, ◌∙◌}
+use mathlib.Core.Path.{◌≡◌, refl, sym, ap, ◌∙◌}
+use Rattle.std.specs.Prelude.{Result, Ok, Err}
+use Rattle.base.specs.Number.{refusal_number, refusal_place, number_in}
+use Rattle.base.specs.declared.Refused.{Refused}
+use Rattle.base.specs.declared.Refused.TheVariants.{NoSignals}
+use Rattle.base.proofs.NumberLaws.{same_refusal, refusal_above_0}
 use lib.ListN.{length}
 use Rattle.read.proofs.EntryLaws.{read_single}
-use Rattle.stream.proofs.RunLaws.{fed_single}
-use Rattle.write.proofs.Calls.{wrote_single}
+use Rattle.read.proofs.AnswerLaws as reads
+use Rattle.stream.proofs.RunLaws.{fed_single, feed_single, end_single}
+use Rattle.write.proofs.Calls.{wrote_single, results_single}
 use Rattle.signals.proofs.EntryLaws.{signals_single}
+use Rattle.signals.specs.Answer as heard
+use Rattle.signals.specs.declared.Signalling as code
 use Rattle.signalled.proofs.Calls as signalled
-use Rattle.exchange.proofs.MapLaws.{mapped_single}
-use Rattle.t1read.proofs.EntryLaws as t1reads
-use Rattle.t1write.proofs.Calls as t1writes
+use Rattle.exchange.proofs.AnswerLaws.{host_single, key_single, boundary_single, map_single}
+use Rattle.t1read.proofs.EntryLaws as t1reading
+use Rattle.t1read.proofs.AnswerLaws as t1reads
+use Rattle.t1write.proofs.Calls.{wrote, wrote_signalled, told_single}
+use Rattle.t1write.proofs.AnswerLaws as t1writes
 use Rattle.jikhvanto.specs.Octets.{pair_places}
 use Rattle.jikhvanto.specs.Stream.{feeding_of}
 use Rattle.jikhvanto.proofs.Laws.{jk_read_single, jk_signals_single, jk_why_single, jk_write_single, jk_write_signalled_single}
@@ -16,26 +26,62 @@ use Rattle.jikhvanto.proofs.Laws.{jk_start_single, jk_host_single, jk_key_single
 use Rattle.jikhvanto.proofs.T1Laws.{jk_t1_read_single, jk_t1_write_single, jk_t1_write_signalled_single}
 use Rattle.claims.specs.Single.{Single}
 
+-- two results of `signals` with one answer are equal, but for the place that goes with number 15
+
+no_place : (e : Refused) → (refusal_number e ≡ 15 → ⊥) → refusal_place e ≡ 0
+no_place (NoSignals p) h = absurd (h refl)
+no_place _ h = refl
+
+same_signalling : (r r' : Result code.Signalling Refused) → (number_in r ≡ 15 → ⊥) → heard.answered r ≡ heard.answered r' → r ≡ r'
+same_signalling (Ok r) (Ok r') n e =
+    let its : r ≡ r' = λ i.
+    record {
+      multiframes = (e i).multiframes;
+      first = (e i).first;
+      losses = (e i).losses;
+      held = (e i).held;
+      x0 = (e i).x0;
+      x1 = (e i).x1;
+      x2 = (e i).x2;
+      y = (e i).y;
+      starts = (e i).starts;
+    } in
+    ap Ok its
+same_signalling (Ok r) (Err f) n e = absurd (refusal_above_0 f (sym (ap (λ (x : heard.Signalling). x.number) e)))
+same_signalling (Err d) (Ok r) n e = absurd (refusal_above_0 d (ap (λ (x : heard.Signalling). x.number) e))
+same_signalling (Err d) (Err f) n e =
+    let k : refusal_number d ≡ refusal_number f = ap (λ (x : heard.Signalling). x.number) e in
+    ap Err (same_refusal d f k (no_place d n ∙ sym (no_place f (λ q. n (k ∙ q)))))
+
 pub single : Single
 single =
     record {
-      read = read_single;
+      read = λ s payload slot0 r r' p p' o o' h h'.
+          let e = read_single s payload slot0 _ _ p p' o o' h h' in
+          (reads.same_answer r r' e.0, e.1, e.2);
       stream_start = λ st st' e e'. e ∙ sym e';
-      feed = λ st window t payload slot0 r r' w w' p p' o o' h h'. fed_single h h';
-      end = λ st r r' e e'. e ∙ sym e';
-      signals = λ s out r r' x x' h h'. signals_single s out r r' x x' h h';
+      feed = λ st window t payload slot0 x x' r r' w w' p p' o o' h h'. feed_single x x' r r' h h';
+      end = end_single;
+      signals = λ s out r r' x x' h h'.
+          let e = signals_single s out _ _ x x' h h' in
+          (e.0, e.1, λ n. same_signalling r r' n e.0);
       why = λ s p r r' e e'. e ∙ sym e';
-      write = λ p o c out r r' x x' h h'. wrote_single h h';
-      write_signalled = λ p o c xy v out r r' x x' h h'. signalled.wrote_single h h';
-      map_payload = mapped_single;
+      write = λ p o c out r r' x x' h h'. (results_single h h', (wrote_single h h').1);
+      write_signalled = λ p o c xy v out r r' x x' h h'. (signalled.results_single h h', (signalled.wrote_single h h').1);
+      map_payload = map_single;
       start = λ s s' e e'. e ∙ sym e';
-      host = λ s octets r r' e e'. e ∙ sym e';
-      key = λ s position r r' e e'. e ∙ sym e';
-      boundary = λ s r r' e e'. e ∙ sym e';
-      t1_read = t1reads.read_single;
-      t1_write = λ p l c out r r' x x' h h'. t1writes.told_single ((t1writes.wrote).0 h) ((t1writes.wrote).0 h');
+      host = host_single;
+      key = key_single;
+      boundary = boundary_single;
+      t1_read = λ s payload link r r' p p' l l' h h'.
+          let e = t1reading.read_single s payload link _ _ p p' l l' h h' in
+          (t1reads.same_result r r' e.0, e.1, e.2);
+      t1_write = λ p l c out r r' x x' h h'.
+          let e = told_single (wrote.0 h) (wrote.0 h') in
+          (t1writes.same_result r r' e.0, e.1);
       t1_write_signalled = λ p l c g out r r' x x' h h'.
-          t1writes.told_single ((t1writes.wrote_signalled).0 h) ((t1writes.wrote_signalled).0 h');
+          let e = told_single (wrote_signalled.0 h) (wrote_signalled.0 h') in
+          (t1writes.same_result r r' e.0, e.1);
       jk_read = λ image payload slot0 r r' p p' o o' a a' h h'. jk_read_single h h';
       jk_stream_start = λ s s' h h'. h.its_stream ∙ sym h'.its_stream;
       jk_feed = λ stream chunk payload slot0 r r' s s' p p' o o' a a' h h'.

@@ -26,7 +26,7 @@ use Rattle.measure.specs.Reading.{payload_of, slot0_of, errored}
 use Rattle.measure.proofs.Laws.{payload_length, slot0_length}
 use Rattle.read.specs.Entry as reads
 use Rattle.read.specs.Entry.{GoodLength, place_in, start_in, used_in, Read}
-use Rattle.read.specs.declared.Reading.{Reading}
+use Rattle.read.specs.Answer.{Reading}
 use Rattle.read.proofs.EntryLaws.{short_output, read_number, read_accepted, read_refused}
 use Rattle.growth.specs.Growth.{Grown, nothing}
 use Rattle.growth.specs.declared.Line.{Line}
@@ -39,8 +39,8 @@ use Rattle.chunk.specs.Taking.{lacks_room, over}
 use Rattle.stream.specs.Entry.{is_over, grown_of, feed_refusals, feed_refusal, feed_accept, end_refusal, ending, Feeds}
 use Rattle.stream.specs.Runs.{Call, chunk, end, Run, begun, called, run, line_refusals, line_reading, line_payload, line_slot0}
 use Rattle.stream.specs.declared.Stream.{Stream}
-use Rattle.stream.specs.declared.Fed.{Fed}
-use Rattle.stream.specs.declared.Ended.{Ended}
+use Rattle.stream.specs.Answer.{Fed}
+use Rattle.stream.specs.Answer.{Ended}
 use Rattle.stream.proofs.EntryLaws.{sound, ended_21}
 use Rattle.stream.proofs.RunLaws.{fed_number, fed_taken, fed_refused, end_number, end_refused, left, follows, lost_none}
 use Rattle.stream.proofs.RunLaws.{waits_with, holds_last, grown_few, Joined, begun_joined, run_joined, came, over_is_ended}

@@ -11,11 +11,11 @@ use Rattle.t1.specs.Payload.{superframes}
 use Rattle.t1read.specs.Reading.{octet_of, payload_of, link_bit, link_of}
 use Rattle.t1read.specs.Entry as reads
 use Rattle.t1read.specs.Entry.{place_in, whole_in, Read}
-use Rattle.t1read.specs.declared.Reading.{Reading}
+use Rattle.t1read.specs.Answer.{Reading}
 use Rattle.t1read.proofs.EntryLaws.{read_number, read_refused, number_1, number_2, number_4, some_stands}
 use Rattle.t1write.specs.Writing.{with_signals}
 use Rattle.t1write.specs.Entry as writes
-use Rattle.t1write.specs.declared.Written.{Written}
+use Rattle.t1write.specs.Answer.{Written}
 use Rattle.t1write.proofs.Calls.{wrote, wrote_signalled, told_number, told_refused, told_kept}
 use Rattle.t1write.proofs.Signals.{length_signals}
 use Rattle.claims.specs.T1Demand1.{T1Demand1}

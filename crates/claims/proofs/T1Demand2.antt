@@ -7,15 +7,15 @@ use borrow.Author.Tests.{eq-eqb}
 use lib.ListN.{length, get_or, take}
 use lib.Seq.{get_or-take}
 use Rattle.t1.specs.Payload.{superframes}
-use Rattle.t1align.proofs.Laws.{finds_at, finds_nothing}
+use Rattle.t1align.proofs.Laws.{first_stands, none_stands}
 use Rattle.t1read.specs.Entry.{Read}
-use Rattle.t1read.specs.declared.Reading.{Reading}
+use Rattle.t1read.specs.Answer.{Reading}
 use Rattle.t1read.proofs.EntryLaws.{number_3, read_number}
 use Rattle.t1write.specs.Writing.{with_signals}
 use Rattle.t1write.specs.Inputs.{OfBits, Inputs}
 use Rattle.t1write.specs.Entry.{Wrote, WroteSignalled}
 use Rattle.t1write.specs.Entry as writes
-use Rattle.t1write.specs.declared.Written.{Written}
+use Rattle.t1write.specs.Answer.{Written}
 use Rattle.t1write.proofs.Signals.{length_signals, signals_at, kept_octet, replaced_bit, kept_bits, signals_lt}
 use Rattle.t1write.proofs.Calls as calls
 use Rattle.t1write.proofs.Calls.{Sound, Told, wrote, wrote_signalled, told_number, told_check, told_line, two_calls, signals_inputs}
@@ -114,8 +114,8 @@ t1_demand_2 =
           let e = read_number s payload link r payload' link' h in
           let n = number_3 s (length payload) (length link) good in
           (λ k. n.0 (sym e ∙ k), λ k. e ∙ n.1 k);
-      found_at = finds_at;
-      found_nothing = finds_nothing;
+      found_at = first_stands;
+      found_nothing = none_stands;
       writes = writes_so;
       writes_signalled = λ p l c g out r out' octets h z.
           let s = given_signals h z in

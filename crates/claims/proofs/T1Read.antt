@@ -15,7 +15,7 @@ use Rattle.t1align.specs.Stands.{StandsFirst}
 use Rattle.t1read.specs.Reading.{whole, octet_of, payload_of, link_bit, link_of, errored}
 use Rattle.t1read.specs.Entry as reads
 use Rattle.t1read.specs.Entry.{place_in, whole_in, Read}
-use Rattle.t1read.specs.declared.Reading.{Reading}
+use Rattle.t1read.specs.Answer.{Reading}
 use Rattle.t1read.proofs.EntryLaws.{ready, read_number, read_accepted}
 use Rattle.claims.specs.Counts.{Counted}
 use Rattle.claims.specs.T1Demand2.{AgreesT1, AcceptedT1}

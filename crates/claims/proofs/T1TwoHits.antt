@@ -12,7 +12,7 @@ use Rattle.crc.proofs.Order.{order_6}
 use Rattle.t1.specs.Superframe.{framing_at, carried, check_of, agrees}
 use Rattle.t1read.specs.Reading.{compared, errored}
 use Rattle.t1read.specs.Entry.{accept, Read}
-use Rattle.t1read.specs.declared.Reading.{Reading}
+use Rattle.t1read.specs.Answer.{Reading}
 use Rattle.t1read.proofs.EntryLaws.{read_accepted}
 use Rattle.claims.specs.T1TwoHits.{T1TwoHits}
 use Rattle.claims.proofs.Pairs.{t1_all, t1_hidden}

@@ -14,7 +14,7 @@ use Rattle.t1align.specs.Place.{first_standing}
 use Rattle.t1align.proofs.Laws.{first_stands}
 use Rattle.t1read.specs.Reading.{whole, octet_of, payload_of, link_bit, link_of}
 use Rattle.t1read.specs.Entry.{place_in, whole_in, Read}
-use Rattle.t1read.specs.declared.Reading.{Reading}
+use Rattle.t1read.specs.Answer.{Reading}
 use Rattle.t1read.proofs.EntryLaws.{accepts, place_is, read_number}
 use Rattle.t1write.specs.Writing.{carries, written}
 use Rattle.t1write.specs.Inputs.{Inputs}

@@ -12,7 +12,7 @@ use Rattle.crc.proofs.Order.{order_4}
 use Rattle.e1.specs.Block.{block_check, carried, agrees}
 use Rattle.measure.specs.Reading.{compared, errored}
 use Rattle.read.specs.Entry.{accept, Read}
-use Rattle.read.specs.declared.Reading.{Reading}
+use Rattle.read.specs.Answer.{Reading}
 use Rattle.read.proofs.EntryLaws.{read_accepted}
 use Rattle.claims.specs.TwoHits.{TwoHits}
 use Rattle.claims.proofs.Pairs.{e1_all, e1_hidden}

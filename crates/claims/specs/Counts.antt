@@ -6,7 +6,7 @@ use Rattle.e1.specs.Frame.{frame_at, alignment}
 use Rattle.e1.specs.Block.{block_check, carried}
 use Rattle.measure.specs.Reading.{wrong}
 use Rattle.read.specs.Entry.{Read}
-use Rattle.read.specs.declared.Reading.{Reading}
+use Rattle.read.specs.Answer.{Reading}
 
 -- k of the numbers below n have P
 pub record Counted (n k : ℕ) (P : ℕ → Type 0) : Type 0 where

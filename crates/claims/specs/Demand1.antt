@@ -6,20 +6,21 @@ use Rattle.e1.specs.Payload.{multiframes}
 use Rattle.align.specs.Why.{why, why_values, why_number}
 use Rattle.read.specs.Entry.{Read}
 use Rattle.read.specs.Entry as reads
-use Rattle.read.specs.declared.Reading.{Reading}
+use Rattle.read.specs.Answer.{Reading}
 use Rattle.stream.specs.Entry.{feed_refuse, Feeds, ending}
 use Rattle.stream.specs.declared.Stream.{Stream}
-use Rattle.stream.specs.declared.Fed.{Fed}
+use Rattle.stream.specs.Answer.{Fed}
 use Rattle.write.specs.Entry.{Wrote}
 use Rattle.write.specs.Entry as writes
-use Rattle.write.specs.declared.Written.{Written}
+use Rattle.write.specs.Answer.{Written, refuse}
 use Rattle.signals.specs.Entry.{Signalled}
 use Rattle.signals.specs.Entry as signals
-use Rattle.signals.specs.declared.Signalling.{Signalling}
+use Rattle.signals.specs.Answer.{Signalling}
 use Rattle.signalled.specs.Entry as signalled
 use Rattle.exchange.specs.declared.State.{State}
 use Rattle.exchange.specs.Mapping.{entry_at, Mapped}
-use Rattle.exchange.specs.Machine.{start_state, accept, hosted}
+use Rattle.exchange.specs.Answer.{accept}
+use Rattle.exchange.specs.Machine.{start_state, hosted}
 use Rattle.exchange.specs.Runs.{Call, key, mapping, after_call, answer, lent, numbers_of, after_run, answers, last_key}
 use Rattle.exchange.specs.Runs.{quiet, heard, any_call, is_boundary, is_commit, is_key_on}
 
@@ -63,9 +64,9 @@ pub record Demand1 : Type 0 where
   pub why_refused : (s : List ℕ) (p n : ℕ) → why_number (why s p) ≡ suc n
       → why_values (why s p) ≡ suc n ∷ 0 ∷ 0 ∷ 0 ∷ []
   pub write_refused : (p o : List ℕ) (c : ℕ) (out : List ℕ) (r : Written) (out' : List ℕ) (n : ℕ)
-      → Wrote p o c out r out' → r.number ≡ suc n → (r ≡ writes.refuse (suc n)) × (out' ≡ out)
+      → Wrote p o c out r out' → r.number ≡ suc n → (r ≡ refuse (suc n)) × (out' ≡ out)
   pub write_signalled_refused : (p o : List ℕ) (c : ℕ) (xy v out : List ℕ) (r : Written) (out' : List ℕ) (n : ℕ)
-      → signalled.Wrote p o c xy v out r out' → r.number ≡ suc n → (r ≡ writes.refuse (suc n)) × (out' ≡ out)
+      → signalled.Wrote p o c xy v out r out' → r.number ≡ suc n → (r ≡ refuse (suc n)) × (out' ≡ out)
   pub call_refused : (s : State) (c : Call) → ((answer s c).number ≡ 0 → ⊥)
       → (after_call s c ≡ s) × ((answer s c).entry ≡ 0) × ((answer s c).output ≡ lent c)
   -- in an accepted call output octets past the needed length keep what they held

@@ -14,10 +14,10 @@ use Rattle.align.specs.Stands.{Basic, BasicFirst, Pair, Stands, StandsFirst}
 use Rattle.align.specs.declared.Found.TheVariants.{At, BasicAt, Nothing}
 use Rattle.measure.specs.Reading.{whole, loss, lost_at, cause_of, used_of, word_errors, word_bits, compared, errored, far_end}
 use Rattle.read.specs.Entry.{Read, GoodLength}
-use Rattle.read.specs.declared.Reading.{Reading}
+use Rattle.read.specs.Answer.{Reading}
 use Rattle.write.specs.Entry.{Wrote}
 use Rattle.write.specs.Writing.{carries, written, overhead_of}
-use Rattle.write.specs.declared.Written.{Written}
+use Rattle.write.specs.Answer.{Written}
 
 -- ---- reading
 

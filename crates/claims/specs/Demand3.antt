@@ -4,7 +4,7 @@ use Rattle.base.specs.Tab.{tab}
 use Rattle.line.specs.Bit.{bit_at}
 use Rattle.e1.specs.Block.{block_check, carried}
 use Rattle.read.specs.Entry.{Read}
-use Rattle.read.specs.declared.Reading.{Reading}
+use Rattle.read.specs.Answer.{Reading}
 
 -- an aligned image of n whole multiframes, n at least 1: no bit before the start, none behind the last
 pub record Aligned (s : List ℕ) (n : ℕ) : Type 0 where

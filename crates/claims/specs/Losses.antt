@@ -5,7 +5,7 @@ use Rattle.e1.specs.Frame.{frame_at}
 use Rattle.measure.specs.Reading.{word_loss, lost_at, cause_of, used_of}
 use Rattle.measure.specs.Loss.{LostByWords, LostByBits2, LostBy, Loss}
 use Rattle.read.specs.Entry.{Read}
-use Rattle.read.specs.declared.Reading.{Reading}
+use Rattle.read.specs.Answer.{Reading}
 
 -- what is answered is by words alone, as though no bit 2 were looked at
 pub record ByWordsAlone (s : List ℕ) (r : Reading) : Type 0 where

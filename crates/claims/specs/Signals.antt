@@ -5,12 +5,12 @@ use Rattle.line.specs.Bit.{octet_at}
 use Rattle.e1.specs.Frame.{slot_at}
 use Rattle.e1.specs.Payload.{index_of, multiframes}
 use Rattle.read.specs.Entry.{Read}
-use Rattle.read.specs.declared.Reading.{Reading}
-use Rattle.write.specs.declared.Written.{Written}
+use Rattle.read.specs.Answer.{Reading}
+use Rattle.write.specs.Answer.{Written}
 use Rattle.signals.specs.Signalling.{signal_at, begun, walk, loses, starts_in, read_in, first_in, abcd_at, abcd_in}
 use Rattle.signals.specs.Lost.{Lost}
 use Rattle.signals.specs.Entry.{slot16_in, Signalled}
-use Rattle.signals.specs.declared.Signalling.{Signalling}
+use Rattle.signals.specs.Answer.{Signalling}
 use Rattle.heard.specs.Hearing.{nothing, after_row, hearing_of, is_held, xy_of, told_along, Hears}
 use Rattle.signalled.specs.Slot16.{slot16, with_slot16}
 use Rattle.signalled.specs.Entry.{Wrote}

@@ -1,58 +1,71 @@
 -- Nothing is left open: any two results that an entry's contract admits are equal, with what they leave in every lent
 -- octet. The entries are those of `align`, `read`, `stream`, `signals`, `write`, `signalled`, `exchange`, `t1read` and
 -- `t1write`, and the sixteen functions of the C interface over them.
-use Rattle.std.specs.Prelude.{ℕ, ◌≡◌, List}
+use Rattle.std.specs.Prelude.{ℕ, ◌≡◌, ◌≢◌, List, Result}
+use Rattle.base.specs.declared.Refused.{Refused}
+use Rattle.base.specs.Number.{number_in}
 use Rattle.align.specs.Why.{why}
 use Rattle.align.specs.declared.Why.{Why}
 use Rattle.read.specs.Entry.{Read}
+use Rattle.read.specs.Answer as reads
 use Rattle.read.specs.declared.Reading.{Reading}
 use Rattle.stream.specs.Entry.{starting, Feeds, ending}
 use Rattle.stream.specs.declared.Stream.{Stream}
-use Rattle.stream.specs.declared.Fed.{Fed}
-use Rattle.stream.specs.declared.Ended.{Ended}
+use Rattle.stream.specs.Answer as streams
 use Rattle.write.specs.Entry.{Wrote}
-use Rattle.write.specs.declared.Written.{Written}
+use Rattle.write.specs.Answer.{answered}
 use Rattle.signals.specs.Entry.{Signalled}
+use Rattle.signals.specs.Answer as heard
 use Rattle.signals.specs.declared.Signalling.{Signalling}
 use Rattle.signalled.specs.Entry as signalled
 use Rattle.exchange.specs.Mapping.{Mapped}
 use Rattle.exchange.specs.Machine.{start_state, hosted, keyed, crossed}
 use Rattle.exchange.specs.declared.State.{State}
-use Rattle.exchange.specs.declared.Answered.{Answered}
-use Rattle.t1read.specs.Entry as t1reads
-use Rattle.t1read.specs.declared.Reading as t1reading
-use Rattle.t1write.specs.Entry as t1writes
-use Rattle.t1write.specs.declared.Written as t1written
+use Rattle.exchange.specs.Answer as exchange
+use Rattle.t1read.specs.Entry as t1reading
+use Rattle.t1read.specs.Answer as t1reads
+use Rattle.t1read.specs.declared.Reading as t1read
+use Rattle.t1write.specs.Entry as t1writing
+use Rattle.t1write.specs.Answer as t1writes
 use Rattle.jikhvanto.specs.Calls.{JkRead, JkStreamStart, JkFeed, JkEnd, JkSignals, JkWhy, JkWrite, JkWriteSignalled}
 use Rattle.jikhvanto.specs.Calls.{JkT1Read, JkT1Write, JkT1WriteSignalled, JkStart, JkHost, JkKey, JkBoundary, JkMap}
 
 pub record Single : Type 0 where
-  pub read : (s payload slot0 : List ℕ) (r r' : Reading) (p p' o o' : List ℕ)
-      → Read s payload slot0 r p o → Read s payload slot0 r' p' o' → (r ≡ r') × (p ≡ p') × (o ≡ o')
+  pub read : (s payload slot0 : List ℕ) (r r' : Result Reading Refused) (p p' o o' : List ℕ)
+      → Read s payload slot0 (reads.answered r) p o → Read s payload slot0 (reads.answered r') p' o'
+      → (r ≡ r') × (p ≡ p') × (o ≡ o')
   pub stream_start : (st st' : Stream) → st ≡ starting → st' ≡ starting → st ≡ st'
-  pub feed : (st : Stream) (window t payload slot0 : List ℕ) (r r' : Fed) (w w' p p' o o' : List ℕ)
-      → Feeds st window t payload slot0 r w p o → Feeds st window t payload slot0 r' w' p' o'
-      → (r ≡ r') × (w ≡ w') × (p ≡ p') × (o ≡ o')
-  pub end : (st : Stream) (r r' : Ended) → r ≡ ending st → r' ≡ ending st → r ≡ r'
-  pub signals : (s out : List ℕ) (r r' : Signalling) (x x' : List ℕ)
-      → Signalled s out r x → Signalled s out r' x' → (r ≡ r') × (x ≡ x')
-  pub why : (s : List ℕ) (p : ℕ) (r r' : Why) → r ≡ why s p → r' ≡ why s p → r ≡ r'
-  pub write : (p o : List ℕ) (c : ℕ) (out : List ℕ) (r r' : Written) (x x' : List ℕ)
-      → Wrote p o c out r x → Wrote p o c out r' x' → (r ≡ r') × (x ≡ x')
-  pub write_signalled : (p o : List ℕ) (c : ℕ) (xy v out : List ℕ) (r r' : Written) (x x' : List ℕ)
-      → signalled.Wrote p o c xy v out r x → signalled.Wrote p o c xy v out r' x' → (r ≡ r') × (x ≡ x')
-  pub map_payload : (map payload out : List ℕ) (r r' : ℕ) (x x' : List ℕ)
-      → Mapped map payload out r x → Mapped map payload out r' x' → (r ≡ r') × (x ≡ x')
+  pub feed : (st : Stream) (window t payload slot0 : List ℕ) (x x' : Stream) (r r' : Result ℕ Refused) (w w' p p' o o' : List ℕ)
+      → Feeds st window t payload slot0 (streams.fed_answer x r) w p o → Feeds st window t payload slot0 (streams.fed_answer x' r') w' p' o'
+      → (x ≡ x') × (r ≡ r') × (w ≡ w') × (p ≡ p') × (o ≡ o')
+  pub end : (st x x' : Stream) (r r' : Result Reading Refused) → streams.end_answer x r ≡ ending st → streams.end_answer x' r' ≡ ending st
+      → (x ≡ x') × (r ≡ r')
+  pub signals : (s out : List ℕ) (r r' : Result Signalling Refused) (x x' : List ℕ)
+      → Signalled s out (heard.answered r) x → Signalled s out (heard.answered r') x'
+      → (heard.answered r ≡ heard.answered r') × (x ≡ x') × (number_in r ≢ 15 → r ≡ r')
+  pub why : (s : List ℕ) (p : ℕ) (r r' : Result Why Refused) → r ≡ why s p → r' ≡ why s p → r ≡ r'
+  pub write : (p o : List ℕ) (c : ℕ) (out : List ℕ) (r r' : Result ℕ Refused) (x x' : List ℕ)
+      → Wrote p o c out (answered r) x → Wrote p o c out (answered r') x' → (r ≡ r') × (x ≡ x')
+  pub write_signalled : (p o : List ℕ) (c : ℕ) (xy v out : List ℕ) (r r' : Result ℕ Refused) (x x' : List ℕ)
+      → signalled.Wrote p o c xy v out (answered r) x → signalled.Wrote p o c xy v out (answered r') x'
+      → (r ≡ r') × (x ≡ x')
+  pub map_payload : (map payload out : List ℕ) (r r' : Result (Unit {0}) Refused) (x x' : List ℕ)
+      → Mapped map payload out (number_in r) x → Mapped map payload out (number_in r') x' → (r ≡ r') × (x ≡ x')
   pub start : (s s' : State) → s ≡ start_state → s' ≡ start_state → s ≡ s'
-  pub host : (s : State) (octets : List ℕ) (r r' : Answered) → r ≡ hosted s octets → r' ≡ hosted s octets → r ≡ r'
-  pub key : (s : State) (position : ℕ) (r r' : Answered) → r ≡ keyed s position → r' ≡ keyed s position → r ≡ r'
-  pub boundary : (s : State) (r r' : Answered) → r ≡ crossed s → r' ≡ crossed s → r ≡ r'
-  pub t1_read : (s payload link : List ℕ) (r r' : t1reading.Reading) (p p' l l' : List ℕ)
-      → t1reads.Read s payload link r p l → t1reads.Read s payload link r' p' l' → (r ≡ r') × (p ≡ p') × (l ≡ l')
-  pub t1_write : (p l : List ℕ) (c : ℕ) (out : List ℕ) (r r' : t1written.Written) (x x' : List ℕ)
-      → t1writes.Wrote p l c out r x → t1writes.Wrote p l c out r' x' → (r ≡ r') × (x ≡ x')
-  pub t1_write_signalled : (p l : List ℕ) (c : ℕ) (g out : List ℕ) (r r' : t1written.Written) (x x' : List ℕ)
-      → t1writes.WroteSignalled p l c g out r x → t1writes.WroteSignalled p l c g out r' x' → (r ≡ r') × (x ≡ x')
+  pub host : (s : State) (octets : List ℕ) (t t' : State) (r r' : Result ℕ Refused)
+      → exchange.answered t r ≡ hosted s octets → exchange.answered t' r' ≡ hosted s octets → (t ≡ t') × (r ≡ r')
+  pub key : (s : State) (position : ℕ) (t t' : State) (r r' : Result (Unit {0}) Refused)
+      → exchange.told t r ≡ keyed s position → exchange.told t' r' ≡ keyed s position → (t ≡ t') × (r ≡ r')
+  pub boundary : (s t t' : State) → exchange.accept t 0 ≡ crossed s → exchange.accept t' 0 ≡ crossed s → t ≡ t'
+  pub t1_read : (s payload link : List ℕ) (r r' : Result t1read.Reading Refused) (p p' l l' : List ℕ)
+      → t1reading.Read s payload link (t1reads.answered r) p l → t1reading.Read s payload link (t1reads.answered r') p' l'
+      → (r ≡ r') × (p ≡ p') × (l ≡ l')
+  pub t1_write : (p l : List ℕ) (c : ℕ) (out : List ℕ) (r r' : Result ℕ Refused) (x x' : List ℕ)
+      → t1writing.Wrote p l c out (t1writes.answered r) x → t1writing.Wrote p l c out (t1writes.answered r') x'
+      → (r ≡ r') × (x ≡ x')
+  pub t1_write_signalled : (p l : List ℕ) (c : ℕ) (g out : List ℕ) (r r' : Result ℕ Refused) (x x' : List ℕ)
+      → t1writing.WroteSignalled p l c g out (t1writes.answered r) x
+      → t1writing.WroteSignalled p l c g out (t1writes.answered r') x' → (r ≡ r') × (x ≡ x')
   pub jk_read : (image payload slot0 : List ℕ) (r r' : ℕ) (p p' o o' a a' : List ℕ)
       → JkRead image payload slot0 r p o a → JkRead image payload slot0 r' p' o' a'
       → (r ≡ r') × (p ≡ p') × (o ≡ o') × (a ≡ a')

@@ -6,13 +6,13 @@ use Rattle.line.specs.Bit.{bit_at, octet_at}
 use Rattle.align.specs.Place.{number_of, start_of}
 use Rattle.align.specs.Stands.{Basic, BasicFirst, Stands}
 use Rattle.read.specs.Entry.{GoodLength, Read}
-use Rattle.read.specs.declared.Reading.{Reading}
+use Rattle.read.specs.Answer.{Reading}
 use Rattle.growth.specs.Growth.{fed, after}
 use Rattle.growth.specs.declared.Line.{Line}
 use Rattle.stream.specs.Entry.{is_over, octets_came, feed_refusal, ending, Feeds}
 use Rattle.stream.specs.Runs.{Call, chunk, end, Run, begun, called, run, line_reading, line_payload, line_slot0}
 use Rattle.stream.specs.declared.Stream.{Stream}
-use Rattle.stream.specs.declared.Fed.{Fed}
+use Rattle.stream.specs.Answer.{Fed}
 use Rattle.claims.specs.Counts.{Agrees}
 use Rattle.claims.specs.Demand2.{Accepted}
 use Rattle.claims.specs.Demand3.{Aligned, OnlyThere}

@@ -5,9 +5,9 @@ use Rattle.base.specs.Answer.{among}
 use Rattle.t1.specs.Payload.{superframes}
 use Rattle.t1align.specs.Stands.{Stands}
 use Rattle.t1read.specs.Entry.{GoodLength, whole_in, refuse, Read}
-use Rattle.t1read.specs.declared.Reading.{Reading}
+use Rattle.t1read.specs.Answer.{Reading}
 use Rattle.t1write.specs.Entry.{Wrote, WroteSignalled}
-use Rattle.t1write.specs.declared.Written.{Written}
+use Rattle.t1write.specs.Answer.{Written}
 
 pub record T1Demand1 : Type 0 where
   -- it answers, or refuses by a number from its list of the table

@@ -1,18 +1,17 @@
 -- Demand 2 of T1 (KIT §15): right against G.704's extended superframe. Frames are numbered from 0, over all superframes.
-use Rattle.std.specs.Prelude.{ℕ, ◌+◌, ◌-◌, ◌*◌, ◌/◌, ◌%◌, ◌≤◌, ◌<◌, ◌≡◌, List, ◌++◌, ◌↔◌, ◌≢◌, length, get_or, take}
+use Rattle.std.specs.Prelude.{ℕ, ◌+◌, ◌-◌, ◌*◌, ◌/◌, ◌%◌, ◌≤◌, ◌<◌, ◌≡◌, List, ◌++◌, ◌↔◌, ◌≢◌, Some, None, length, get_or, take}
 use Rattle.line.specs.Bit.{bit_at, octet_at}
 use Rattle.line.specs.Signal.{signal}
 use Rattle.t1.specs.Superframe.{framing_at, octet_place, carried, super_check}
 use Rattle.t1.specs.Payload.{superframes}
-use Rattle.t1align.specs.Place.{found_in}
+use Rattle.t1align.specs.Place.{first_standing}
 use Rattle.t1align.specs.Stands.{Stands, StandsFirst}
-use Rattle.t1align.specs.declared.Found.TheVariants.{At, Nothing}
 use Rattle.t1read.specs.Reading.{whole}
 use Rattle.t1read.specs.Entry.{GoodLength, Read}
-use Rattle.t1read.specs.declared.Reading.{Reading}
+use Rattle.t1read.specs.Answer.{Reading}
 use Rattle.t1write.specs.Writing.{carries, written, with_signals}
 use Rattle.t1write.specs.Entry.{Wrote, WroteSignalled}
-use Rattle.t1write.specs.declared.Written.{Written}
+use Rattle.t1write.specs.Answer.{Written}
 use Rattle.claims.specs.Counts.{Counted}
 
 -- ---- reading
@@ -98,8 +97,8 @@ pub record T1Demand2 : Type 0 where
   pub none : (s payload link : List ℕ) (r : Reading) (payload' link' : List ℕ) → GoodLength s
       → Read s payload link r payload' link' → r.number ≡ 3 ↔ ((p : ℕ) → Stands s p → ⊥)
   -- what the search answers, case by case
-  pub found_at : (s : List ℕ) (p : ℕ) → found_in s ≡ At p ↔ StandsFirst s p
-  pub found_nothing : (s : List ℕ) → found_in s ≡ Nothing ↔ ((p : ℕ) → Stands s p → ⊥)
+  pub found_at : (s : List ℕ) (p : ℕ) → first_standing s ≡ Some p ↔ StandsFirst s p
+  pub found_nothing : (s : List ℕ) → first_standing s ≡ None ↔ ((p : ℕ) → Stands s p → ⊥)
   -- the writer makes the standard's superframes
   pub writes : (p l : List ℕ) (c : ℕ) (out : List ℕ) (r : Written) (out' : List ℕ) → ((i : ℕ) → get_or p i 0 < 256)
       → Wrote p l c out r out' → r.number ≡ 0

@@ -5,7 +5,7 @@ use Rattle.base.specs.Tab.{tab}
 use Rattle.line.specs.Bit.{bit_at}
 use Rattle.t1.specs.Superframe.{carried, super_check}
 use Rattle.t1read.specs.Entry.{Read}
-use Rattle.t1read.specs.declared.Reading.{Reading}
+use Rattle.t1read.specs.Answer.{Reading}
 use Rattle.claims.specs.Demand3.{OnlyWithin}
 
 -- an aligned image of n whole superframes, n at least 1

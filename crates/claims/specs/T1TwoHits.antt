@@ -4,7 +4,7 @@ use Rattle.std.specs.Int.Bits.{bit_xor}
 use Rattle.crc.specs.Share.{share, distance}
 use Rattle.t1.specs.Superframe.{super_check}
 use Rattle.t1read.specs.Entry.{Read}
-use Rattle.t1read.specs.declared.Reading.{Reading}
+use Rattle.t1read.specs.Answer.{Reading}
 use Rattle.claims.specs.T1Demand2.{AgreesT1}
 use Rattle.claims.specs.T1Demand3.{AlignedT1}
 use Rattle.claims.specs.TwoHits.{HitTwice, data_pairs}

@@ -7,7 +7,7 @@ use Rattle.line.specs.Bit.{bit_at}
 use Rattle.crc.specs.Share.{share, distance}
 use Rattle.e1.specs.Block.{block_check}
 use Rattle.read.specs.Entry.{Read}
-use Rattle.read.specs.declared.Reading.{Reading}
+use Rattle.read.specs.Answer.{Reading}
 use Rattle.claims.specs.Counts.{Agrees}
 use Rattle.claims.specs.Demand3.{Aligned}
 
