@@ -14,16 +14,7 @@ use write::Payload;
 fn nibbles(octets: &[u8], n: usize, low: u8) -> bool
     ensures { result ≡ nibbles low n octets.now }
 {
-    if octets.len() != n {
-        return false;
-    }
-    for i in 0..n {
-        let x = octets[i];
-        if (x < low) | (15 < x) {
-            return false;
-        }
-    }
-    true
+    octets.len() == n && octets.iter().all(|x| (low <= *x) & (*x <= 15))
 }
 
 // n octets XY, and 30n octets ABCD of which none is 0000
@@ -91,5 +82,5 @@ pub fn write_signalled(
         return Err(Refused::NoRoom);
     }
     let payload = Signalled { payload, xy, abcd };
-    Ok(write::write_all(&payload, overhead, check as u8, n, out) as u64)
+    Ok(u64::from(write::write_all(&payload, overhead, check as u8, n, out)))
 }

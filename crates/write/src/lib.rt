@@ -23,6 +23,7 @@ fn bit_1(f: usize, x: u8) -> u8
     ensures { (result ≡ bit1 f x) × (result < 2) }
 {
     let h = f / 2 % 8;
+    // `SIGNAL.get(h)` with `unwrap_or` was slower: 3 instructions an odd frame
     if h < 6 {
         return SIGNAL[h];
     }
@@ -130,15 +131,11 @@ fn overhead_fits(overhead: &[u8], n: usize) -> bool
     requires { n < 2 ^ 60 }
     ensures { result ≡ overhead_fits overhead.now n }
 {
-    if overhead.len() != 8 * n {
-        return false;
-    }
-    for h in 0..8 * n {
-        if overhead_limit(h) <= overhead[h] {
-            return false;
-        }
-    }
-    true
+    overhead.len() == 8 * n
+        && overhead
+            .iter()
+            .enumerate()
+            .all(|(h, x)| *x < overhead_limit(h))
 }
 
 // what is wrong with what a call is given
@@ -166,5 +163,5 @@ pub fn write(payload: &[u8], overhead: &[u8], check: u64, out: &mut [u8]) -> Res
     if out.len() < 512 * n {
         return Err(Refused::NoRoom);
     }
-    Ok(write_all(&payload, overhead, check as u8, n, out) as u64)
+    Ok(u64::from(write_all(&payload, overhead, check as u8, n, out)))
 }

@@ -1,5 +1,5 @@
 -- `write_signalled` meets its contract, refused and accepted.
-use Rattle.std.proofs.Common.{sym, length}
+use Rattle.std.proofs.Common.{sym, ◌∙◌, length}
 use Rattle.std.proofs.lemmas.Result.{err_from_is_err_and}
 use Rattle.base.specs.declared.Refused.TheVariants.{NoRoom, Signalling}
 use Rattle.signalled.proofs.Calls.{fault_first, faultless, no_signals, room_short, sound, refused, taken, accepted_inputs, accepted_whole, accepted_given}
@@ -52,5 +52,5 @@ returns c =
     let a = c.args in
     let z = sound a.payload.now a.overhead.now a.check a.xy.now a.abcd.now (length a.out.now) c.in_ok-fault.ensures
     (sym c.if-not-signals_fit.ensures) c.if-out-n.false in
-    taken a.payload.now a.overhead.now a.check a.xy.now a.abcd.now a.out.now c.write_all.result c.write_all.new.out z
-    c.write_all.ensures.value c.write_all.ensures.out_after
+    taken a.payload.now a.overhead.now a.check a.xy.now a.abcd.now a.out.now c.from.result c.write_all.new.out z
+    (c.from.ensures ∙ c.write_all.ensures.value) c.write_all.ensures.out_after

@@ -1,5 +1,5 @@
 -- `write` meets its contract, refused and accepted.
-use Rattle.std.proofs.Common.{sym, length}
+use Rattle.std.proofs.Common.{sym, ◌∙◌, length}
 use Rattle.std.proofs.lemmas.Result.{err_from_is_err_and}
 use Rattle.base.specs.declared.Refused.TheVariants.{NoRoom}
 use Rattle.write.proofs.Calls.{fault_first, room_short, sound, refused, taken, accepted_call}
@@ -29,5 +29,5 @@ pub returns : goal.returns
 returns c =
     let a = c.args in
     let z = sound a.payload.now a.overhead.now a.check (length a.out.now) c.in_ok-fault.ensures c.if-out-n.false in
-    taken a.payload.now a.overhead.now a.check a.out.now c.write_all.result c.write_all.new.out z
-    c.write_all.ensures.value c.write_all.ensures.out_after
+    taken a.payload.now a.overhead.now a.check a.out.now c.from.result c.write_all.new.out z
+    (c.from.ensures ∙ c.write_all.ensures.value) c.write_all.ensures.out_after
