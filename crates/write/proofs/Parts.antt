@@ -2,14 +2,13 @@
 use Prim.Native.Nat.{ℕ, zero, suc, ◌+◌, ◌-◌, ◌*◌, ◌/◌, ◌%◌, ◌≤◌, ◌<◌}
 use mathlib.Core.Path.{◌≡◌, refl, sym, ap, ap₂, ◌∙◌}
 use mathlib.Core.Bool.{false, cond}
-use mathlib.Core.List.{List, ◌∷◌, ◌++◌}
-use native.Mathlib.Numerals.{add-one}
+use mathlib.Core.List.{List, [], ◌∷◌, ◌++◌, append-nil, append_assoc}
 use native.Mathlib.Omega.{arith}
 use borrow.Author.Tests.{ne_eqb}
 use borrow.Rule.Slice.PartMut.{put_mid, drop_put}
 use lib.Dec.{eqb}
-use lib.ListN.{length, get_or, take, drop, take-append-drop}
-use lib.Seq.{get_or-take, get_or-drop, drop-drop}
+use lib.ListN.{length, get_or, take, drop, length-append, length-drop, drop_of_length-le, take-append-drop}
+use lib.Seq.{get_or-take, get_or-drop, drop-drop, take_at, drop_at}
 use Rattle.std.specs.List.{between}
 use Rattle.base.specs.Tab.{tab}
 use Rattle.base.proofs.TabLaws.{tab_of, tab_fill}
@@ -17,7 +16,7 @@ use Rattle.base.proofs.PartLaws.{part_more, part_length, take_put_more}
 use Rattle.e1.specs.Block.{block_check}
 use Rattle.e1.specs.Payload.{index_of}
 use Rattle.write.specs.Writing.{slot0, octet_in, block, carries, written}
-use Rattle.write.specs.Inputs.{BlockInputs, Inputs}
+use Rattle.write.specs.Inputs.{BlockInputs, Inputs, check_within, multiframe, check_behind}
 use Rattle.write.proofs.Laws.{length_block}
 
 -- octet i of block b
@@ -68,35 +67,71 @@ module _ (p o : List ℕ) (k b : ℕ) where
       let n : 32 * i ≡ 256 = omega arith in
       tab_fill xs 256 (block_octet p o k b) (omega arith) (rw n at q)
 
-pub block_inputs : (p o : List ℕ) (c n k b : ℕ) → Inputs p o c n → b < 2 * n → k < 16 → BlockInputs p o k b
-block_inputs p o c n k b g h hk =
+-- two parts of one length, one behind the other
+pub two_parts : (n : ℕ) (xs y z : List ℕ) → length xs ≡ n + n → length y ≡ n → put_mid n n (put_mid 0 n xs y) z ≡ y ++ z
+two_parts n xs y z lx ly =
+    let r = drop n (drop 0 xs) in
+    let e : drop n (drop n (y ++ r)) ≡ [] = ap (drop n) (drop_at y r n ly) ∙ drop_of_length-le r {i = n} (omega (arith, length-drop n (drop 0 xs))) in
+    ap₂ (λ u v. u ++ (z ++ v)) (take_at y r n ly) e ∙ ap (λ v. y ++ v) (append-nil z)
+
+length_multiframe : (p o : List ℕ) (k m : ℕ) → length (multiframe p o k m) ≡ 512
+length_multiframe p o k m =
+    length-append (block p o k (2 * m)) (block p o (check_within p o k m) (2 * m + 1))
+    ∙ ap₂ (λ a b. a + b) (length_block p o k (2 * m)) (length_block p o (check_within p o k m) (2 * m + 1))
+
+pub multiframe_inputs : (p o : List ℕ) (c n k m : ℕ) → Inputs p o c n → m < n → k < 16 → BlockInputs p o k (2 * m + 1)
+multiframe_inputs p o c n k m g h hk =
     record { payload_length = omega arith; overhead_length = omega arith; limited = g.limited; four_bits = hk }
 
--- one block more, of output xs₀
-module _ (p o : List ℕ) (c b : ℕ) where
-  pub block_more : (k : ℕ) (xs ys xs₀ : List ℕ) → 256 * b + 256 ≤ length xs → k ≡ carries p o c b → ys ≡ block p o k b
-      → take (256 * b) xs ≡ written p o c b → drop (256 * b) xs ≡ drop (256 * b) xs₀
-      → (take (256 * (b + 1)) (put_mid (256 * b) (256 * b + 256 - 256 * b) xs ys) ≡ written p o c (b + 1))
-      × (drop (256 * (b + 1)) (put_mid (256 * b) (256 * b + 256 - 256 * b) xs ys) ≡ drop (256 * (b + 1)) xs₀)
-      × (block_check ys 0 ≡ carries p o c (b + 1))
+pub first_inputs : (p o : List ℕ) (k m : ℕ) → BlockInputs p o k (2 * m + 1) → BlockInputs p o k (2 * m)
+first_inputs p o k m g =
+    record { payload_length = omega arith; overhead_length = omega arith; limited = g.limited; four_bits = g.four_bits }
+
+-- one multiframe more, of output xs₀
+module _ (p o : List ℕ) (c m : ℕ) where
+  -- the check behind the blocks of multiframe m, and the blocks themselves
+  pub carried_on : (k : ℕ) → k ≡ carries p o c (2 * m) → check_behind p o k m ≡ carries p o c (2 * (m + 1))
+  unfolding carries
+  carried_on k e =
+      let n : suc (suc (2 * m)) ≡ 2 * (m + 1) = omega arith in
+      let s : 2 * m + 1 ≡ suc (2 * m) = omega arith in
+      ap (λ k. check_behind p o k m) e
+      ∙ ap (λ b. block_check (block p o (check_within p o (carries p o c (2 * m)) m) b) 0) s
+      ∙ ap (carries p o c) n
+
+  written_on : (k : ℕ) → k ≡ carries p o c (2 * m)
+      → written p o c (2 * m) ++ multiframe p o k m ≡ written p o c (2 * (m + 1))
   unfolding written carries
-  block_more k xs ys xs₀ hx ek ey q r =
-      let n : 256 * (b + 1) ≡ 256 * b + 256 = omega arith in
-      let y : ys ≡ block p o (carries p o c b) b = ey ∙ ap (λ x. block p o x b) ek in
-      let l : length ys ≡ 256 * b + 256 - 256 * b = ap length ey ∙ length_block p o k b ∙ omega arith in
-      let z = put_mid (256 * b) (256 * b + 256 - 256 * b) xs ys in (
-        ap (λ x. take x z) n ∙ take_put_more (256 * b) (256 * b + 256) xs ys (written p o c b) (omega arith) hx l q
-            ∙ ap (λ x. written p o c b ++ x) y ∙ ap (written p o c) (sym (add-one b)),
-        ap (λ x. drop x z) n ∙ drop_put (256 * b) (256 * b + 256) xs ys (omega arith) hx l
-            ∙ sym (drop-drop 256 (256 * b) xs) ∙ ap (drop 256) r ∙ drop-drop 256 (256 * b) xs₀ ∙ ap (λ x. drop x xs₀) (sym n),
-        ap (λ l. block_check l 0) y ∙ ap (carries p o c) (sym (add-one b)),
+  written_on k e =
+      let n : suc (suc (2 * m)) ≡ 2 * (m + 1) = omega arith in
+      let s : 2 * m + 1 ≡ suc (2 * m) = omega arith in
+      let w = written p o c (2 * m) in
+      let a = block p o (carries p o c (2 * m)) (2 * m) in
+      ap (λ k. w ++ multiframe p o k m) e
+      ∙ ap (λ b. w ++ (a ++ block p o (check_within p o (carries p o c (2 * m)) m) b)) s
+      ∙ sym (append_assoc w a _)
+      ∙ ap (written p o c) n
+
+  pub multiframe_more : (k : ℕ) (xs ys xs₀ : List ℕ) → 512 * m + 512 ≤ length xs → k ≡ carries p o c (2 * m)
+      → ys ≡ multiframe p o k m
+      → take (512 * m) xs ≡ written p o c (2 * m) → drop (512 * m) xs ≡ drop (512 * m) xs₀
+      → (take (512 * (m + 1)) (put_mid (512 * m) (512 * m + 512 - 512 * m) xs ys) ≡ written p o c (2 * (m + 1)))
+      × (drop (512 * (m + 1)) (put_mid (512 * m) (512 * m + 512 - 512 * m) xs ys) ≡ drop (512 * (m + 1)) xs₀)
+  multiframe_more k xs ys xs₀ hx ek ey q r =
+      let n : 512 * (m + 1) ≡ 512 * m + 512 = omega arith in
+      let l : length ys ≡ 512 * m + 512 - 512 * m =
+      ap length ey ∙ length_multiframe p o k m ∙ omega arith in
+      let z = put_mid (512 * m) (512 * m + 512 - 512 * m) xs ys in (
+        ap (λ x. take x z) n ∙ take_put_more (512 * m) (512 * m + 512) xs ys (written p o c (2 * m)) (omega arith) hx l q
+            ∙ ap (λ x. written p o c (2 * m) ++ x) ey ∙ written_on k ek,
+        ap (λ x. drop x z) n ∙ drop_put (512 * m) (512 * m + 512) xs ys (omega arith) hx l
+            ∙ sym (drop-drop 512 (512 * m) xs) ∙ ap (drop 512) r ∙ drop-drop 512 (512 * m) xs₀ ∙ ap (λ x. drop x xs₀) (sym n),
       )
 
-  pub all_done : (n k : ℕ) (xs xs₀ : List ℕ) → b ≡ 2 * n → k ≡ carries p o c b
-      → take (256 * b) xs ≡ written p o c b → drop (256 * b) xs ≡ drop (256 * b) xs₀
+  pub all_done : (n k : ℕ) (xs xs₀ : List ℕ) → m ≡ n → k ≡ carries p o c (2 * m)
+      → take (512 * m) xs ≡ written p o c (2 * m) → drop (512 * m) xs ≡ drop (512 * m) xs₀
       → (xs ≡ written p o c (2 * n) ++ drop (512 * n) xs₀) × (k ≡ carries p o c (2 * n))
-  all_done n k xs xs₀ e ek q r =
-      let m : 256 * b ≡ 512 * n = omega arith in (
-        sym (take-append-drop (256 * b) xs) ∙ ap₂ (λ u v. u ++ v) (q ∙ ap (written p o c) e) (r ∙ ap (λ x. drop x xs₀) m),
-        ek ∙ ap (carries p o c) e,
-      )
+  all_done n k xs xs₀ e ek q r = (
+    sym (take-append-drop (512 * m) xs) ∙ ap₂ (λ u v. u ++ v) (q ∙ ap (λ m. written p o c (2 * m)) e) (r ∙ ap (λ m. drop (512 * m) xs₀) e),
+    ek ∙ ap (λ m. carries p o c (2 * m)) e,
+  )

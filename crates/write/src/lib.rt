@@ -9,7 +9,7 @@ ghost use Rattle.base.specs.Answer.{first_number};
 ghost use Rattle.base.specs.Number.{number_in};
 ghost use Rattle.write.specs.Answer.{answered};
 ghost use Rattle.write.specs.Entry.{overhead_limit, overhead_fits, faults, Wrote};
-ghost use Rattle.write.specs.Inputs.{BlockInputs, Inputs};
+ghost use Rattle.write.specs.Inputs.{BlockInputs, Inputs, multiframe, check_behind};
 
 use base::Refused;
 use crc::table::Remainders;
@@ -31,7 +31,7 @@ fn bit_1(f: usize, x: u8) -> u8
 }
 
 // slot 0 of frame f, in a block that carries the check k
-fn slot_0(k: u8, f: usize, x: u8) -> u8
+pub fn slot_0(k: u8, f: usize, x: u8) -> u8
     requires { x < 128 }
     ensures { result ≡ slot0 k f x }
 {
@@ -62,7 +62,7 @@ impl Payload for &[u8] {
 }
 
 // a frame: slot 0, and its payload in slots 1 to 31. By `copy_from_slice` it was slower: whether the two overlap is tested.
-fn write_frame(slot: u8, octets: [u8; 31], out: &mut [u8])
+pub fn write_frame(slot: u8, octets: [u8; 31], out: &mut [u8])
     requires { length out.old ≡ 32 }
     ensures { out.new ≡ slot ∷ octets }
 {
@@ -94,7 +94,24 @@ fn write_block<P: Payload>(
     e1::block_check(out, 0, k, table)
 }
 
-// n multiframes, block after block, and the check of the last
+// multiframe m, of which the first block carries the check k: its two blocks, and the check of the second
+fn write_multiframe<P: Payload>(
+    payload: &P,
+    overhead: &[u8],
+    k: u8,
+    m: usize,
+    out: &mut [u8],
+    table: &Remainders,
+) -> u8
+    requires { BlockInputs (P.octets payload.now) overhead.now k (2 * m + 1) × (length out.old ≡ 512) }
+    ensures out_after { out.new ≡ multiframe (P.octets payload.now) overhead.now k m }
+    ensures value { (result ≡ check_behind (P.octets payload.now) overhead.now k m) × (result < 16) }
+{
+    let c = write_block(payload, overhead, k, 2 * m, &mut out[0..256], table);
+    write_block(payload, overhead, c, 2 * m + 1, &mut out[256..512], table)
+}
+
+// n multiframes, each with its part of the output, and the check of the last block
 pub fn write_all<P: Payload>(
     payload: &P,
     overhead: &[u8],
@@ -109,9 +126,9 @@ pub fn write_all<P: Payload>(
 {
     let table = Remainders::new();
     let mut c = check;
-    for b in 0..2 * n {
-        let a = 256 * b;
-        c = write_block(payload, overhead, c, b, &mut out[a..a + 256], &table);
+    for m in 0..n {
+        let a = 512 * m;
+        c = write_multiframe(payload, overhead, c, m, &mut out[a..a + 512], &table);
     }
     c
 }
