@@ -11,7 +11,6 @@ use Rattle.stream.specs.Entry.{feed_refuse, Feeds, ending}
 use Rattle.stream.specs.declared.Stream.{Stream}
 use Rattle.stream.specs.Answer.{Fed}
 use Rattle.write.specs.Entry.{Wrote}
-use Rattle.write.specs.Entry as writes
 use Rattle.write.specs.Answer.{Written, refuse}
 use Rattle.signals.specs.Entry.{Signalled}
 use Rattle.signals.specs.Entry as signals

@@ -1,6 +1,6 @@
 -- Each map is laid behind what stands there.
 use native.Mathlib.Omega.{arith}
-use Rattle.jikhvanto.proofs.Maps.{one_length, two_length, packed}
+use Rattle.jikhvanto.proofs.Maps.{two_length, packed}
 use Rattle.jikhvanto.proofs.pack.Goals as goal
 
 pub slice_bounds-octets-end-3 : goal.slice_bounds-octets-end-3
