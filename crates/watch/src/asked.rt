@@ -1,40 +1,42 @@
 // What the arguments ask for.
 ghost use Rattle.std.specs.Prelude.{◌≤◌};
-ghost use Rattle.io.specs.Counts.{IsPrefixLen};
 
+use crate::WATCH;
+use std::io::Write;
 use std::rt::{Env, Files};
 
-// The number of the argument that names the payload's file, 0 where none does, and of the one that may name the line; and
+// The number of the argument that names the payload's file, if one does, and of the one that may name the line; and
 // whether changes are printed.
 #[derive(Clone, Copy)]
 pub struct Asked {
-    pub payload: usize,
+    pub payload: Option<usize>,
     pub line: usize,
     pub phones: bool,
 }
 
 // from argument `at` on, where those before it ask for changes or do not
-fn from(rt: &impl Env, at: usize, is_phones: bool) -> Asked
+fn from(rt: &impl Env, at: usize, phones: bool) -> Asked
     requires { at ≤ 2 }
 {
     if !program::is_option(rt, at, b"--payload") {
         return Asked {
-            payload: 0,
+            payload: None,
             line: at,
-            phones: is_phones,
+            phones,
         };
     }
+    let payload = Some(at + 1);
     if program::is_option(rt, at + 2, b"--phones") {
         return Asked {
-            payload: at + 1,
+            payload,
             line: at + 3,
             phones: true,
         };
     }
     Asked {
-        payload: at + 1,
+        payload,
         line: at + 2,
-        phones: is_phones,
+        phones,
     }
 }
 
@@ -46,52 +48,42 @@ pub fn arguments(rt: &impl Env) -> Asked {
     from(rt, 1, false)
 }
 
-// Where the payload goes: a file, or nowhere, and how many octets of a lent path are its name; and whether it could be
-// opened.
+// an open file for the payload, and its name
 #[derive(Drop)]
-pub struct Output<F> {
-    pub file: Option<F>,
-    pub n: usize,
-    pub ok: bool,
+pub struct Output<'a, F> {
+    file: F,
+    name: &'a [u8],
 }
 
-// The file that argument `at` names, made or emptied; none where that is 0. Where it cannot be, that is said.
-pub fn create<R: Env + Files>(rt: &R, at: usize, name: &mut [u8]) -> Output<R::File>
-    ensures { IsPrefixLen result.n name.new }
-{
-    let given = rt.arg(at, name);
-    let n = given.unwrap_or(0);
-    if at == 0 {
-        return Output {
-            file: None,
-            n: n,
-            ok: true,
-        };
-    }
-    if given.is_err() {
-        program::say(
-            b"watch",
-            b"the name of the payload's file is missing, or is too long",
-        );
-        return Output {
-            file: None,
-            n: n,
-            ok: false,
-        };
-    }
-    match program::create_file(rt, &name[..n]) {
-        Ok(file) => Output {
-            file: Some(file),
-            n: n,
-            ok: true,
-        },
-        Err(why) => {
-            program::fail(b"watch", &name[..n], why);
-            Output {
-                file: None,
-                n: n,
-                ok: false,
+impl<'a, F: Write> Output<'a, F> {
+    // Where octets cannot be written, that is said.
+    pub fn put(&mut self, octets: &[u8]) -> bool {
+        match self.file.write_all(octets) {
+            Ok(()) => true,
+            Err(why) => {
+                WATCH.fail(self.name, why);
+                false
             }
+        }
+    }
+}
+
+// The file that argument `at` names, made or emptied. Where it cannot be, that is said.
+pub fn create<'a, R: Env + Files>(
+    rt: &R,
+    at: usize,
+    room: &'a mut [u8],
+) -> Option<Output<'a, R::File>> {
+    let Ok(n) = rt.arg(at, room) else {
+        WATCH.say("the name of the payload's file is missing, or is too long");
+        return None;
+    };
+    let name = &room[..n];
+    match program::create_file(rt, name) {
+        Ok(file) => Some(Output { file, name }),
+        Err(why) => {
+            WATCH.fail(name, why);
+            None
         }
     }
 }

@@ -4,4 +4,4 @@ use Rattle.heard.specs.Hearing.{Few}
 use Rattle.watch.proofs.watch.Given as goal
 
 abbrev pub invariant-loop-turn : goal.invariant-loop-turn
-invariant-loop-turn g l = (l.w.came ≤ 4096 * l._turn) × Few l.w.heard.now (192 * l._turn)
+invariant-loop-turn g l = (l.watched.came ≤ 4096 * l._turn) × Few l.watched.heard.now (192 * l._turn)
