@@ -1,15 +1,15 @@
 -- The proof of Single.
 use mathlib.Core.Path.{◌≡◌, refl, sym, ap, ◌∙◌}
 use Rattle.std.specs.Prelude.{Result, Ok, Err}
-use Rattle.base.specs.Number.{refusal_number, refusal_place, number_in}
+use Rattle.base.specs.Number.{number_in}
 use Rattle.base.specs.declared.Refused.{Refused}
-use Rattle.base.specs.declared.Refused.TheVariants.{NoSignals}
 use Rattle.base.proofs.NumberLaws.{same_refusal, refusal_above_0}
 use lib.ListN.{length}
 use Rattle.read.proofs.EntryLaws.{read_single}
 use Rattle.read.proofs.AnswerLaws as reads
 use Rattle.stream.proofs.RunLaws.{fed_single, feed_single, end_single}
 use Rattle.write.proofs.Calls.{wrote_single, results_single}
+use Rattle.read.specs.Entry.{refused_place}
 use Rattle.signals.proofs.EntryLaws.{signals_single}
 use Rattle.signals.specs.Answer as heard
 use Rattle.signals.specs.declared.Signalling as code
@@ -26,14 +26,11 @@ use Rattle.jikhvanto.proofs.Laws.{jk_start_single, jk_host_single, jk_key_single
 use Rattle.jikhvanto.proofs.T1Laws.{jk_t1_read_single, jk_t1_write_single, jk_t1_write_signalled_single}
 use Rattle.claims.specs.Single.{Single}
 
--- two results of `signals` with one answer are equal, but for the place that goes with number 15
+-- two results of `signals` with one answer and one place are equal
 
-no_place : (e : Refused) → (refusal_number e ≡ 15 → ⊥) → refusal_place e ≡ 0
-no_place (NoSignals p) h = absurd (h refl)
-no_place _ h = refl
-
-same_signalling : (r r' : Result code.Signalling Refused) → (number_in r ≡ 15 → ⊥) → heard.answered r ≡ heard.answered r' → r ≡ r'
-same_signalling (Ok r) (Ok r') n e =
+same_signalling : (r r' : Result code.Signalling Refused) → heard.answered r ≡ heard.answered r'
+    → heard.place_with r ≡ heard.place_with r' → r ≡ r'
+same_signalling (Ok r) (Ok r') e p =
     let its : r ≡ r' = λ i.
     record {
       multiframes = (e i).multiframes;
@@ -47,11 +44,16 @@ same_signalling (Ok r) (Ok r') n e =
       starts = (e i).starts;
     } in
     ap Ok its
-same_signalling (Ok r) (Err f) n e = absurd (refusal_above_0 f (sym (ap (λ (x : heard.Signalling). x.number) e)))
-same_signalling (Err d) (Ok r) n e = absurd (refusal_above_0 d (ap (λ (x : heard.Signalling). x.number) e))
-same_signalling (Err d) (Err f) n e =
-    let k : refusal_number d ≡ refusal_number f = ap (λ (x : heard.Signalling). x.number) e in
-    ap Err (same_refusal d f k (no_place d n ∙ sym (no_place f (λ q. n (k ∙ q)))))
+same_signalling (Ok r) (Err f) e p = absurd (refusal_above_0 f (sym (ap (λ (x : heard.Signalling). x.number) e)))
+same_signalling (Err d) (Ok r) e p = absurd (refusal_above_0 d (ap (λ (x : heard.Signalling). x.number) e))
+same_signalling (Err d) (Err f) e p = ap Err (same_refusal d f (ap (λ (x : heard.Signalling). x.number) e) p)
+
+number_answered : (r : Result code.Signalling Refused) → number_in r ≡ (heard.answered r).number
+number_answered (Ok r) = refl
+number_answered (Err e) = refl
+
+same_number : (r r' : Result code.Signalling Refused) → heard.answered r ≡ heard.answered r' → number_in r ≡ number_in r'
+same_number r r' e = number_answered r ∙ ap (λ (x : heard.Signalling). x.number) e ∙ sym (number_answered r')
 
 pub single : Single
 single =
@@ -62,9 +64,9 @@ single =
       stream_start = λ st st' e e'. e ∙ sym e';
       feed = λ st window t payload slot0 x x' r r' w w' p p' o o' h h'. feed_single x x' r r' h h';
       end = end_single;
-      signals = λ s out r r' x x' h h'.
+      signals = λ s out r r' x x' h p h' p'.
           let e = signals_single s out _ _ x x' h h' in
-          (e.0, e.1, λ n. same_signalling r r' n e.0);
+          (same_signalling r r' e.0 (p ∙ ap (refused_place s) (same_number r r' e.0) ∙ sym p'), e.1);
       why = λ s p r r' e e'. e ∙ sym e';
       write = λ p o c out r r' x x' h h'. (results_single h h', (wrote_single h h').1);
       write_signalled = λ p o c xy v out r r' x x' h h'. (signalled.results_single h h', (signalled.wrote_single h h').1);

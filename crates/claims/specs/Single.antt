@@ -1,12 +1,12 @@
 -- Nothing is left open: any two results that an entry's contract admits are equal, with what they leave in every lent
 -- octet. The entries are those of `align`, `read`, `stream`, `signals`, `write`, `signalled`, `exchange`, `t1read` and
 -- `t1write`, and the sixteen functions of the C interface over them.
-use Rattle.std.specs.Prelude.{ℕ, ◌≡◌, ◌≢◌, List, Result}
+use Rattle.std.specs.Prelude.{ℕ, ◌≡◌, List, Result}
 use Rattle.base.specs.declared.Refused.{Refused}
 use Rattle.base.specs.Number.{number_in}
 use Rattle.align.specs.Why.{why}
 use Rattle.align.specs.declared.Why.{Why}
-use Rattle.read.specs.Entry.{Read}
+use Rattle.read.specs.Entry.{Read, refused_place}
 use Rattle.read.specs.Answer as reads
 use Rattle.read.specs.declared.Reading.{Reading}
 use Rattle.stream.specs.Entry.{starting, Feeds, ending}
@@ -41,8 +41,9 @@ pub record Single : Type 0 where
   pub end : (st x x' : Stream) (r r' : Result Reading Refused) → streams.end_answer x r ≡ ending st → streams.end_answer x' r' ≡ ending st
       → (x ≡ x') × (r ≡ r')
   pub signals : (s out : List ℕ) (r r' : Result Signalling Refused) (x x' : List ℕ)
-      → Signalled s out (heard.answered r) x → Signalled s out (heard.answered r') x'
-      → (heard.answered r ≡ heard.answered r') × (x ≡ x') × (number_in r ≢ 15 → r ≡ r')
+      → Signalled s out (heard.answered r) x → heard.place_with r ≡ refused_place s (number_in r)
+      → Signalled s out (heard.answered r') x' → heard.place_with r' ≡ refused_place s (number_in r')
+      → (r ≡ r') × (x ≡ x')
   pub why : (s : List ℕ) (p : ℕ) (r r' : Result Why Refused) → r ≡ why s p → r' ≡ why s p → r ≡ r'
   pub write : (p o : List ℕ) (c : ℕ) (out : List ℕ) (r r' : Result ℕ Refused) (x x' : List ℕ)
       → Wrote p o c out (answered r) x → Wrote p o c out (answered r') x' → (r ≡ r') × (x ≡ x')

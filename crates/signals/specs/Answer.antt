@@ -1,6 +1,6 @@
 -- What `signals` answers, in numbers (KIT §5, §8).
 use Rattle.std.specs.Prelude.{ℕ, Bool, false, List, replicate, Result, Ok, Err}
-use Rattle.base.specs.Number.{refusal_number}
+use Rattle.base.specs.Number.{refusal_number, refusal_place}
 use Rattle.base.specs.declared.Refused.{Refused}
 use Rattle.signals.specs.declared.Signalling as code
 
@@ -48,3 +48,8 @@ answered (Ok r) =
       starts = r.starts;
     }
 answered (Err e) = refuse (refusal_number e)
+
+-- the place that goes with a refusal, 0 where the call is accepted; it is not among the numbers of the answer
+abbrev pub place_with : Result code.Signalling Refused → ℕ
+place_with (Ok r) = 0
+place_with (Err e) = refusal_place e

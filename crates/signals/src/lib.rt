@@ -4,7 +4,9 @@
 ghost use Rattle.std.specs.Prelude.{◌≡◌, ◌++◌, ◌*◌, ◌≤◌, ◌<◌, length, take, drop};
 ghost use Rattle.line.specs.Bit.{Room};
 ghost use Rattle.signals.specs.Signalling.{signal_at, aligns, abcd_in, xy_in};
-ghost use Rattle.signals.specs.Answer.{answered};
+ghost use Rattle.base.specs.Number.{number_in};
+ghost use Rattle.read.specs.Entry.{refused_place};
+ghost use Rattle.signals.specs.Answer.{answered, place_with};
 ghost use Rattle.signals.specs.Entry.{slot16_of, filled, Signalled};
 ghost use Rattle.signals.specs.Follow.{begins, followed, channels};
 
@@ -163,7 +165,8 @@ fn slot16_of(s: &[u8], q: usize, g: usize) -> [u8; 256]
 
 // The signalling of an image is read: thirty octets for each signalling multiframe go to the output.
 pub fn signals(image: &[u8], out: &mut [u8]) -> Result<Signalling, Refused>
-    ensures { Signalled image.now out.old (answered result) out.new }
+    ensures answer { Signalled image.now out.old (answered result) out.new }
+    ensures place { place_with result ≡ refused_place image.now (number_in result) }
 {
     let located = read::locate(image)?;
     let octets = slot16_of(image, located.start, located.used);

@@ -23,7 +23,10 @@ module _ (s : List ℕ) (l : Located) (h : Locates s (Ok l)) where
 pub returns-in_err-located : goal.returns-in_err-located
 returns-in_err-located c =
     let r = err_from_is_err_and c.from_residual.result c.from_residual.ensures.1 in
-    rw (r.1, r.2) (unplaced_as c.args.image.now c.args.out.now c.in_err-located.field-0.0 c.in_err-located.ensures)
+    record {
+      answer = rw (r.1, r.2) (unplaced_as c.args.image.now c.args.out.now c.in_err-located.field-0.0 c.in_err-located.ensures);
+      place = rw (r.1, r.2) c.in_err-located.ensures.1;
+    }
 
 pub slot16_of-octets-requires : goal.slot16_of-octets-requires
 slot16_of-octets-requires c =
@@ -49,8 +52,8 @@ overflow_mul-found c =
     let e = slots s l h c.slot16_of-octets.result c.slot16_of-octets.ensures in
     omega (arith, found_few (slot16_in s) c.follow-found.result (c.follow-found.ensures ∙ ap followed e) (short s l h))
 
-pub returns-then-out-found : goal.returns-then-out-found
-returns-then-out-found c =
+pub returns-then-out-found-clause-answer : goal.returns-then-out-found-clause-answer
+returns-then-out-found-clause-answer c =
     let s = c.args.image.now in
     let l = c.in_ok-located.located in
     let h = c.in_ok-located.ensures in
@@ -72,8 +75,8 @@ put_abcd-requires c =
     let k : filled (slot16_in s) ≤ length c.args.out.now = omega (arith, n, c.if-out-found.false) in
     rw e (short s l h, f, k)
 
-pub returns : goal.returns
-returns c =
+pub returns-clause-answer : goal.returns-clause-answer
+returns-clause-answer c =
     let s = c.args.image.now in
     let l = c.in_ok-located.located in
     let h = c.in_ok-located.ensures in
