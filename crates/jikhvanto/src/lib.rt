@@ -36,7 +36,7 @@ fn map_at(octets: &[u8], at: usize) -> [u8; 32]
     map
 }
 
-// the state that the octets are
+// the state that the octets are; neither type is declared here, so this is no `From`
 #[tactic(auto, unfolding(crate::specs::Octets::state_of))]
 fn unpack(octets: &[u8; 99]) -> State
     ensures { result ≡ state_of octets.now }
@@ -74,22 +74,22 @@ fn is_reading(octets: &[u8]) -> bool
 
 // number i of a stream's twelve
 #[tactic(auto, using(crate::proofs::StreamLaws::number_from))]
-fn number_at(octets: &[u8], i: usize) -> u64
-    requires { (i < 12) × (length octets.now ≡ 2144) }
+fn number_at(octets: &[u8; 2144], i: usize) -> u64
+    requires { i < 12 }
     ensures { result ≡ number_at i octets.now }
 {
     line::window(octets, 8 * i)
 }
 
 // the same, as large as a length
-fn length_at(octets: &[u8], i: usize) -> usize
-    requires { (i < 12) × (length octets.now ≡ 2144) }
+fn length_at(octets: &[u8; 2144], i: usize) -> usize
+    requires { i < 12 }
     ensures { result ≡ number_at i octets.now }
 {
     number_at(octets, i) as usize
 }
 
-// what is found, by its number
+// what is found, by its number: C keeps numbers
 #[tactic(auto, unfolding(crate::specs::Stream::found_by))]
 fn found_by(number: u64, place: usize, k: usize) -> Found
     ensures { result ≡ found_by number place k }
@@ -103,8 +103,7 @@ fn found_by(number: u64, place: usize, k: usize) -> Found
 
 // the stream that the octets are
 #[tactic(auto, unfolding(crate::specs::Stream::stream_of))]
-fn unpack_stream(octets: &[u8]) -> Stream
-    requires { length octets.now ≡ 2144 }
+fn unpack_stream(octets: &[u8; 2144]) -> Stream
     ensures { result ≡ stream_of octets.now }
 {
     let found = found_by(
@@ -114,7 +113,7 @@ fn unpack_stream(octets: &[u8]) -> Stream
     );
     let line = Line {
         before: length_at(octets, 2),
-        found: found,
+        found,
         used: length_at(octets, 6),
         lost: length_at(octets, 7),
         words: length_at(octets, 8),
@@ -125,7 +124,7 @@ fn unpack_stream(octets: &[u8]) -> Stream
     Stream {
         ended: number_at(octets, 0) == 1,
         fill: length_at(octets, 1),
-        line: line,
+        line,
     }
 }
 
@@ -164,8 +163,7 @@ fn stream_numbers(stream: Stream) -> [u64; 12]
 }
 
 // the numbers of a stream, to the front of its octets
-fn store_numbers(stream: Stream, octets: &mut [u8])
-    requires { length octets.old ≡ 2144 }
+fn store_numbers(stream: Stream, octets: &mut [u8; 2144])
     ensures { octets.new ≡ spelt_numbers (stream_numbers stream) ++ drop 96 octets.old }
 {
     for (i, number) in stream_numbers(stream).iter().enumerate() {
