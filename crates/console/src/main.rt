@@ -35,6 +35,7 @@ fn next(source: &mut impl Read, name: &[u8]) -> Option<u8> {
 }
 
 // a line of the input: how many of its octets are kept, and whether more may come behind it
+// kept: no option in place of `more`: the last line, which has no end, is answered as any
 #[derive(Drop)]
 struct Typed {
     n: usize,

@@ -93,6 +93,7 @@ pub enum Wrong {
 
 // the key, to a position; a host record, of so many octets; a boundary; what is shown; a picture of the live map; what is
 // wrong; nothing, as an empty line or a remark; the end
+// kept: a record's octets are lent, and here is how many: there is no heap
 #[derive(Clone, Copy)]
 pub enum Asked {
     Key(u64),

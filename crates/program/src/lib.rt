@@ -58,6 +58,7 @@ impl<'a> Program<'a> {
     }
 
     // the same of what failed, and why, as the system says it
+    // kept: no format: a file's name is octets, and need not be text
     pub fn fail(self, what: &[u8], why: Error) {
         io::write_all(STDERR, self.name.as_bytes());
         io::write_all(STDERR, b": ");
@@ -279,6 +280,7 @@ impl<S: IsTerminal, F: IsTerminal> IsTerminal for Source<S, F> {
 }
 
 // an open input: where its octets come from, and how many octets of a lent path are its name
+// kept: no heap, and no slice: what is promised of n speaks of the path
 #[derive(Drop)]
 pub struct Input<S, F> {
     pub source: Source<S, F>,

@@ -42,6 +42,7 @@ fn number(s: &[u8]) -> Option<u64>
 }
 
 // how many numbers the words of s spell, up to 8, and those; none where there are more or where a word spells none
+// kept: a row with how many beside it: there is no heap
 pub fn numbers(s: &[u8], row: &mut [u64; 8]) -> Option<usize>
     ensures { IfSome result (λ n. n ≤ 8) }
 {
