@@ -1,5 +1,5 @@
 -- Two hits on bits a and b of one block (KIT §3, and §15 for T1): what is said of them.
-use Rattle.std.specs.Prelude.{if◌then◌else◌, ℕ, ◌-◌, ◌%◌, Bool, ◌||◌, eqb, leb}
+use Rattle.std.specs.Prelude.{if◌then◌else◌, ℕ, ◌-◌, ◌%◌, ◌||◌, eqb, leb}
 use Rattle.crc.specs.Share.{share, distance}
 use Rattle.hits.specs.declared.judge.Form.{Form}
 use Rattle.hits.specs.declared.judge.Form.TheVariants.{E1, T1}

@@ -1,5 +1,5 @@
 -- `call` makes at most one call, and lends it the octets of its record.
-use Rattle.std.proofs.Common.{◌≡◌, ℕ, take, ap, sym, refl, ◌∙◌, inr}
+use Rattle.std.proofs.Common.{◌≡◌, ℕ, take, ap, refl, ◌∙◌, inr}
 use Rattle.std.specs.Prelude.{Result, Ok, Err}
 use Rattle.base.specs.declared.Refused.{Refused}
 use Rattle.exchange.specs.declared.State.{State}

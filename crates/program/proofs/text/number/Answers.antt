@@ -1,5 +1,5 @@
 -- An octet that is no digit ends the word, and each digit goes on with it.
-use Rattle.std.proofs.Common.{◌≡◌, ℕ, ◌+◌, ◌*◌, ◌-◌, ◌^◌, ◌<◌, ◌≤◌, min, true, false, List, length, get_or, drop, add-one, sym, ap, ◌∙◌, rules, arith, drop-cons, le-ltb, lt-ltb, ltb}
+use Rattle.std.proofs.Common.{◌≡◌, ℕ, ◌+◌, ◌*◌, ◌-◌, ◌^◌, ◌<◌, ◌≤◌, min, true, false, List, length, get_or, drop, add-one, sym, ap, ◌∙◌, arith, drop-cons, le-ltb}
 use Rattle.std.proofs.lemmas.List.{drop_all}
 use Rattle.std.specs.Prelude.{None}
 use Rattle.std.specs.Char.{is_ascii_digit}
