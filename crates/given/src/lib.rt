@@ -60,6 +60,7 @@ fn between(first: u8, second: u8, o: usize) -> u8
 }
 
 // b bits 0, then the first 2,048 octets of an image, then bits 0
+// kept: an index: each octet written is of two that are read, the first of which is that of the step before
 fn front(image: &[u8; 8193], b: usize) -> [u8; 8193]
     requires { b < 64 }
 {

@@ -288,6 +288,7 @@ pub struct Input<S, F> {
 }
 
 // reads up to the input's end or to the room's: how many octets
+// kept: a loop: of std's reads that go on to the end, one wants a heap, and the other does not say how much was read
 fn take(source: &mut impl Read, room: &mut [u8]) -> std::io::Result<usize>
     ensures { IfOk result (λ n. IsPrefixLen n room.new) }
 {

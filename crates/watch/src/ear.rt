@@ -59,6 +59,7 @@ impl Heard {
         requires { Few self.old.now (2 ^ 39) × (length payload.now ≤ 5952) }
         ensures { Adds 192 self.old.now self.new.now }
     {
+        // kept: an index: how many octets `skip(15).step_by(31)` gives, the proof did not find (tried)
         for f in 0..payload.len() / 31 {
             self.hear_frame(rt, payload[31 * f + 15])?;
         }
