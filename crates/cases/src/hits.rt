@@ -35,6 +35,7 @@ fn character(bench: &mut Bench, m: usize) -> u8
 }
 
 // the same on T1
+// kept: a function of its own: what differs is the call, its sizes and the bench's method
 fn t1_character(bench: &mut Bench, m: usize) -> u8
     requires { m < 2048 }
 {

@@ -2,6 +2,7 @@
 ghost use Rattle.std.specs.Prelude.{◌<◌};
 
 // The line that a call prints: behind its case's label, and as its step is written.
+// kept: a name and a number at a time, and no Display: beside a refusal's number its zeros are printed
 #[derive(Clone, Copy)]
 pub struct Teller<'a, P> {
     pub rt: &'a P,

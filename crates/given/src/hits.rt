@@ -65,6 +65,7 @@ impl Bench {
     }
 
     // three superframes of T1 with bits i and i + m of the second hit
+    // kept: a function of its own: what differs is every number in it
     pub fn hit_t1(&mut self, i: usize, m: usize)
         requires { (i ≤ 4632) × (m ≤ 4632) }
     {

@@ -144,6 +144,7 @@ impl Bench {
     }
 
     // the same with signalling
+    // kept: three functions: what differs is the call and what it is lent
     fn signalled_line(&self, n: usize) -> [u8; 8193]
         requires { n ≤ 16 }
     {
