@@ -73,6 +73,7 @@ pub fn write_frame(slot: u8, octets: [u8; 31], out: &mut [u8])
 }
 
 // block b, which carries the check k: its frames, and its check
+#[inline(always)]
 fn write_block<P: Payload>(
     payload: &P,
     overhead: &[u8],
