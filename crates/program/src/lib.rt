@@ -185,17 +185,17 @@ impl<'a> Program<'a> {
     }
 }
 
-// argument `at`, put where a room begins: how many octets it has, or 0 where it is missing or has no room
-fn word(rt: &impl Env, at: usize, room: &mut [u8]) -> usize
-    ensures { IsPrefixLen result room.new }
+// argument `at`, put where a room begins: how many octets it has, unless it is missing or has no room
+fn word(rt: &impl Env, at: usize, room: &mut [u8]) -> Option<usize>
+    ensures { IfSome result (λ n. IsPrefixLen n room.new) }
 {
-    rt.arg(at, room).unwrap_or(0)
+    rt.arg(at, room).ok()
 }
 
 // the one number that argument `at` spells
 pub fn argument(rt: &impl Env, at: usize) -> Option<u64> {
     let mut room = io::buffer();
-    let n = word(rt, at, &mut room);
+    let n = word(rt, at, &mut room)?;
     let mut row = [0; 8];
     if numbers(&room[..n], &mut row)? != 1 {
         return None;
@@ -206,8 +206,7 @@ pub fn argument(rt: &impl Env, at: usize) -> Option<u64> {
 // argument `at` is this option
 pub fn is_option(rt: &impl Env, at: usize, option: &[u8]) -> bool {
     let mut room = io::buffer();
-    let n = word(rt, at, &mut room);
-    &room[..n] == option
+    word(rt, at, &mut room).is_some_and(|n| &room[..n] == option)
 }
 
 // the first argument is this option
