@@ -28,6 +28,7 @@ pub fn line_at(table: &[u8], k: usize) -> &[u8] {
 }
 
 // the number that a word's digits spell
+// kept: a loop: with `try_fold` the proof that it is `decimal` did not close (tried)
 fn number(s: &[u8]) -> Option<u64>
     ensures { result ≡ decimal 0 s.now }
 {
@@ -42,7 +43,7 @@ fn number(s: &[u8]) -> Option<u64>
 }
 
 // how many numbers the words of s spell, up to 8, and those; none where there are more or where a word spells none
-// kept: a row with how many beside it: there is no heap
+// kept: a row with how many beside it, for there is no heap; with `try_fold` the proof of n ≤ 8 did not close (tried)
 pub fn numbers(s: &[u8], row: &mut [u64; 8]) -> Option<usize>
     ensures { IfSome result (λ n. n ≤ 8) }
 {
