@@ -39,14 +39,8 @@ fn framed_signalled<'a>(octets: &[u8], line: &'a mut [u8; 8192]) -> Result<&'a [
 fn main(rt: HostRuntime) {
     let mut line = [0u8; 8192];
     if program::is_first(&rt, b"--signalled") {
-        let mut input = [0u8; 8561];
-        if let Some(n) = FRAME.read(&rt, 2, &mut input) {
-            FRAME.put(&rt, framed_signalled(&input[..n], &mut line));
-        }
-        return;
-    }
-    let mut input = [0u8; 8065];
-    if let Some(n) = FRAME.read(&rt, 1, &mut input) {
-        FRAME.put(&rt, framed(&input[..n], &mut line));
+        FRAME.frame(&rt, 2, &mut [0u8; 8561], &mut line, framed_signalled);
+    } else {
+        FRAME.frame(&rt, 1, &mut [0u8; 8065], &mut line, framed);
     }
 }

@@ -183,6 +183,20 @@ impl<'a> Program<'a> {
             }
         }
     }
+
+    // the line that is framed from the program's input, of which argument `at` is the name, as far as there is room for it
+    pub fn frame<
+        'b,
+        R: Env + Files + std::io::Input + Print,
+        L: Drop,
+        F: FnOnce(&[u8], L) -> Result<&'b [u8], Refused>,
+    >(self, rt: &R, at: usize, room: &mut [u8], line: L, framed: F)
+        requires { (octets : _) → length octets.now ≤ length room.old → F.pre framed octets line }
+    {
+        if let Some(n) = self.read(rt, at, room) {
+            self.put(rt, framed(&room[..n], line));
+        }
+    }
 }
 
 // argument `at`, put where a room begins: how many octets it has, unless it is missing or has no room

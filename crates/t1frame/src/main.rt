@@ -38,14 +38,8 @@ fn framed_signalled<'a>(octets: &[u8], line: &'a mut [u8; 8106]) -> Result<&'a [
 fn main(rt: HostRuntime) {
     let mut line = [0u8; 8106];
     if program::is_first(&rt, b"--signalled") {
-        let mut input = [0u8; 9577];
-        if let Some(n) = T1FRAME.read(&rt, 2, &mut input) {
-            T1FRAME.put(&rt, framed_signalled(&input[..n], &mut line));
-        }
-        return;
-    }
-    let mut input = [0u8; 8233];
-    if let Some(n) = T1FRAME.read(&rt, 1, &mut input) {
-        T1FRAME.put(&rt, framed(&input[..n], &mut line));
+        T1FRAME.frame(&rt, 2, &mut [0u8; 9577], &mut line, framed_signalled);
+    } else {
+        T1FRAME.frame(&rt, 1, &mut [0u8; 8233], &mut line, framed);
     }
 }
