@@ -1,5 +1,5 @@
 // The calls on an image and the writers of E1, each with the line that it prints.
-ghost use Rattle.std.specs.Prelude.{◌≡◌, length};
+ghost use Rattle.std.specs.Prelude.{◌≡◌, ◌≤◌, length};
 
 use crate::teller::Teller;
 use align::Why;
@@ -8,44 +8,27 @@ use given::Bench;
 use given::step::Numbers;
 use program::text::limited;
 use read::Reading;
-use signals::Signalling;
 
 // what every octet of an output holds before a call
 pub const BEFORE: u8 = 170;
 
-// zeros, beside the number of a refusal and its place
-fn nothing_read(place: usize) -> Reading {
-    Reading {
-        place,
-        start: 0,
-        whole: 0,
-        used: 0,
-        loss: None,
-        words: 0,
-        compared: 0,
-        errored: 0,
-        farend: 0,
-        wordbits: 0,
-    }
-}
-
 // what a read answers behind its number
-pub fn show_values<P: Print>(t: &Teller<'_, P>, read: Result<Reading, Refused>) {
-    let r = match read {
-        Ok(r) => r,
-        Err(e) => nothing_read(e.place()),
+pub fn show_values<P: Print>(t: &Teller<'_, P>, read: &Result<Reading, Refused>) {
+    let place = match read {
+        Ok(r) => r.place,
+        Err(e) => e.place(),
     };
-    t.count(b" place ", r.place);
-    t.count(b" start ", r.start);
-    t.count(b" whole ", r.whole);
-    t.count(b" used ", r.used);
-    t.count(b" lost ", r.lost());
-    t.count(b" words ", r.words);
-    t.count(b" compared ", r.compared);
-    t.count(b" errored ", r.errored);
-    t.count(b" farend ", r.farend);
-    t.count(b" wordbits ", r.wordbits);
-    t.number(b" cause ", r.cause());
+    t.count(b" place ", place);
+    t.value(b" start ", read, |r| r.start);
+    t.value(b" whole ", read, |r| r.whole);
+    t.value(b" used ", read, |r| r.used);
+    t.value(b" lost ", read, |r| r.lost());
+    t.value(b" words ", read, |r| r.words);
+    t.value(b" compared ", read, |r| r.compared);
+    t.value(b" errored ", read, |r| r.errored);
+    t.value(b" farend ", read, |r| r.farend);
+    t.value(b" wordbits ", read, |r| r.wordbits);
+    t.value(b" cause ", read, |r| r.cause() as usize);
 }
 
 // the number of an answer, 0 where the call is accepted
@@ -56,18 +39,40 @@ pub fn number_of<T: Drop>(answer: &Result<T, Refused>) -> u64 {
     }
 }
 
+// the first octets of some, up to so many
+pub fn first(octets: &[u8], n: u64) -> &[u8] {
+    &octets[..limited(n, octets.len())]
+}
+
+// two outputs of so many octets each, filled by a call that shows what it answers; the digests of both
+pub fn fill<P: Print, F: FnOnce(&mut [u8], &mut [u8])>(
+    t: &Teller<'_, P>,
+    payload_room: usize,
+    name: &[u8],
+    room: usize,
+    call: F,
+)
+    requires { (payload_room ≤ 8064) × (room ≤ 256) × F.IsAlwaysCallable call }
+{
+    let mut payload = [BEFORE; 8064];
+    let mut other = [BEFORE; 256];
+    let payload = &mut payload[..payload_room];
+    let other = &mut other[..room];
+    call(payload, other);
+    t.digest(b" payload ", payload);
+    t.digest(name, other);
+    t.end();
+}
+
 // an image is read
 pub fn read<P: Print>(t: &Teller<'_, P>, bench: &Bench) {
-    let mut payload = [BEFORE; 7936];
-    let mut slot0 = [BEFORE; 256];
-    let payload = &mut payload[..limited(bench.payload_room, 7936)];
-    let slot0 = &mut slot0[..limited(bench.slot0_room, 256)];
-    let read = read::read(bench.read(), payload, slot0);
-    t.answered(number_of(&read));
-    show_values(t, read);
-    t.digest(b" payload ", payload);
-    t.digest(b" slot0 ", slot0);
-    t.end();
+    let payload_room = limited(bench.payload_room, 7936);
+    let slot0_room = limited(bench.slot0_room, 256);
+    fill(t, payload_room, b" slot0 ", slot0_room, |payload, slot0| {
+        let read = read::read(bench.read(), payload, slot0);
+        t.answered(number_of(&read));
+        show_values(t, &read);
+    });
 }
 
 fn show_why<P: Print>(t: &Teller<'_, P>, number: u64, condition: u64, k: usize, bit: usize) {
@@ -79,6 +84,7 @@ fn show_why<P: Print>(t: &Teller<'_, P>, number: u64, condition: u64, k: usize, 
 }
 
 // a place is asked about
+// kept: a number for each condition: it is printed as the table of C has it
 pub fn why<P: Print>(t: &Teller<'_, P>, bench: &Bench, place: u64) {
     match align::ask::why(bench.read(), place) {
         Ok(Why::NoneFails { k }) => show_why(t, 0, 0, k, 0),
@@ -90,67 +96,64 @@ pub fn why<P: Print>(t: &Teller<'_, P>, bench: &Bench, place: u64) {
     }
 }
 
-fn nothing_signalled() -> Signalling {
-    Signalling {
-        multiframes: 0,
-        first: 0,
-        losses: 0,
-        held: false,
-        x0: 0,
-        x1: 0,
-        x2: 0,
-        y: 0,
-        starts: [0; 16],
-    }
-}
-
 // signalling is read, into an output of so many octets
 pub fn signals<P: Print>(t: &Teller<'_, P>, bench: &Bench, room: u64) {
     let mut abcd = [BEFORE; 512];
     let abcd = &mut abcd[..limited(room, 512)];
     let signalling = signals::signals(bench.read(), abcd);
     t.answered(number_of(&signalling));
-    let s = signalling.unwrap_or(nothing_signalled());
-    t.count(b" multiframes ", s.multiframes);
-    t.count(b" first ", s.first);
-    t.count(b" losses ", s.losses);
-    t.number(b" held ", u64::from(s.held));
-    t.number(b" x0 ", u64::from(s.x0));
-    t.number(b" x1 ", u64::from(s.x1));
-    t.number(b" x2 ", u64::from(s.x2));
-    t.number(b" y ", u64::from(s.y));
+    t.value(b" multiframes ", &signalling, |s| s.multiframes);
+    t.value(b" first ", &signalling, |s| s.first);
+    t.value(b" losses ", &signalling, |s| s.losses);
+    t.value(b" held ", &signalling, |s| usize::from(s.held));
+    t.value(b" x0 ", &signalling, |s| usize::from(s.x0));
+    t.value(b" x1 ", &signalling, |s| usize::from(s.x1));
+    t.value(b" x2 ", &signalling, |s| usize::from(s.x2));
+    t.value(b" y ", &signalling, |s| usize::from(s.y));
     t.digest(b" abcd ", abcd);
     t.end();
 }
 
 // what a write answers, and the digest of its output
-pub fn show_write<P: Print>(t: &Teller<'_, P>, check: Result<u64, Refused>, out: &[u8]) {
+fn show_write<P: Print>(t: &Teller<'_, P>, check: Result<u64, Refused>, out: &[u8]) {
     t.answered(number_of(&check));
     t.number(b" check ", check.unwrap_or(0));
     t.digest(b" out ", out);
     t.end();
 }
 
+// an output of so many octets, written by a call
+pub fn write_into<P: Print, F: FnOnce(&mut [u8]) -> Result<u64, Refused>>(
+    t: &Teller<'_, P>,
+    room: u64,
+    call: F,
+)
+    requires { F.IsAlwaysCallable call }
+{
+    let mut out = [BEFORE; 8704];
+    let out = &mut out[..limited(room, 8704)];
+    let check = call(out);
+    show_write(t, check, out);
+}
+
 // so many octets of a payload and of an overhead, a check, and an output of so many octets
 pub fn write<P: Print>(t: &Teller<'_, P>, bench: &Bench, numbers: &Numbers) {
-    let payload = &bench.payload[..limited(numbers.at(0), 8432)];
-    let overhead = &bench.overhead[..limited(numbers.at(1), 136)];
-    let mut out = [BEFORE; 8704];
-    let out = &mut out[..limited(numbers.at(3), 8704)];
-    let check = write::write(payload, overhead, numbers.at(2), out);
-    show_write(t, check, out);
+    let payload = first(&bench.payload, numbers.at(0));
+    let overhead = first(&bench.overhead, numbers.at(1));
+    write_into(t, numbers.at(3), |out| {
+        write::write(payload, overhead, numbers.at(2), out)
+    });
 }
 
 // so many octets of a payload and of an overhead, a check, so many octets of XY and of ABCD, and an output of so many
 pub fn write_signalled<P: Print>(t: &Teller<'_, P>, bench: &Bench, numbers: &Numbers) {
-    let payload = &bench.payload[..limited(numbers.at(0), 8432)];
-    let overhead = &bench.overhead[..limited(numbers.at(1), 136)];
-    let xy = &bench.xy[..limited(numbers.at(3), 17)];
-    let abcd = &bench.abcd[..limited(numbers.at(4), 510)];
-    let mut out = [BEFORE; 8704];
-    let out = &mut out[..limited(numbers.at(5), 8704)];
-    let check = signalled::write_signalled(payload, overhead, numbers.at(2), xy, abcd, out);
-    show_write(t, check, out);
+    let payload = first(&bench.payload, numbers.at(0));
+    let overhead = first(&bench.overhead, numbers.at(1));
+    let xy = first(&bench.xy, numbers.at(3));
+    let abcd = first(&bench.abcd, numbers.at(4));
+    write_into(t, numbers.at(5), |out| {
+        signalled::write_signalled(payload, overhead, numbers.at(2), xy, abcd, out)
+    });
 }
 
 // two multiframes, the second with the check of the first

@@ -1,5 +1,5 @@
 // The calls of the map and the key, each with the line that it prints.
-use crate::lines::{BEFORE, number_of};
+use crate::lines::{BEFORE, first, number_of};
 use crate::teller::Teller;
 use base::Refused;
 use exchange::State;
@@ -25,7 +25,7 @@ pub fn tell<P: Print>(t: &Teller<'_, P>, answer: Result<(), Refused>) {
 
 // so many octets of a payload through the live map, into an output of so many
 pub fn map<P: Print>(t: &Teller<'_, P>, state: &State, bench: &Bench, numbers: &Numbers) {
-    let payload = &bench.payload[..limited(numbers.at(0), 8432)];
+    let payload = first(&bench.payload, numbers.at(0));
     let mut out = [BEFORE; 8432];
     let out = &mut out[..limited(numbers.at(1), 8432)];
     let answer = state.map(payload, out);

@@ -10,12 +10,12 @@ mod machine;
 mod superframes;
 mod teller;
 
+use chunks::Streamed;
 use exchange::State;
 use given::Bench;
 use given::step::{Numbers, Step};
 use program::text::{first_word, numbers};
 use program::{Kind, Program};
-use stream::Stream;
 use teller::Teller;
 
 // A step, and the numbers behind it; none, with a word that is no step or no number, or with more than eight.
@@ -30,11 +30,11 @@ fn parsed(s: &[u8]) -> Option<(Step, Numbers)> {
 #[derive(Drop)]
 struct Kept {
     state: State,
-    stream: Stream,
-    window: [u8; 2048],
+    streamed: Streamed,
 }
 
 // what a step makes or calls
+// kept: a teller, a bench and numbers apart: a step takes some of them, and one that makes something changes the bench
 fn take<P: Print>(
     t: &Teller<'_, P>,
     bench: &mut Bench,
@@ -57,15 +57,15 @@ fn take<P: Print>(
             machine::tell(t, Ok(()));
         }
         Step::Map => machine::map(t, &kept.state, bench, numbers),
-        Step::Stream => kept.stream = Stream::start(),
-        Step::Feed => chunks::feed(t, &mut kept.stream, &mut kept.window, bench, numbers),
-        Step::Feeds => chunks::feeds(t, &mut kept.stream, &mut kept.window, bench, numbers),
-        Step::End => chunks::end(t, &mut kept.stream),
+        Step::Stream => kept.streamed.start(),
+        Step::Feed => kept.streamed.feed(t, bench, numbers),
+        Step::Feeds => kept.streamed.feeds(t, bench, numbers),
+        Step::End => kept.streamed.end(t),
         Step::T1Read => superframes::read(t, bench, numbers),
         Step::T1Write => superframes::write(t, bench, numbers),
         Step::T1WriteSignalled => superframes::write_signalled(t, bench, numbers),
-        Step::TwoHits => hits::show(t, bench, false, numbers),
-        Step::T1TwoHits => hits::show(t, bench, true, numbers),
+        Step::TwoHits => hits::show(t, bench, Kind::E1, numbers),
+        Step::T1TwoHits => hits::show(t, bench, Kind::T1, numbers),
         _ => bench.make(step, numbers),
     }
 }
@@ -98,8 +98,7 @@ fn case(rt: &impl Print, line: &[u8], kept: &mut Kept) {
 fn cases(rt: &impl Print, s: &[u8]) {
     let mut kept = Kept {
         state: State::start(),
-        stream: Stream::start(),
-        window: [0; 2048],
+        streamed: Streamed::new(),
     };
     for line in s.split(|x| *x == b'\n') {
         if line.first().is_some_and(|x| *x != b'#') {

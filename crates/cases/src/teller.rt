@@ -1,6 +1,8 @@
 // What the cases print, and what of an output. Whether it was written is not asked.
 ghost use Rattle.std.specs.Prelude.{◌<◌};
 
+use base::Refused;
+
 // The line that a call prints: behind its case's label, and as its step is written.
 // kept: a name and a number at a time, and no Display: beside a refusal's number its zeros are printed
 #[derive(Clone, Copy)]
@@ -40,6 +42,18 @@ impl<'a, P: Print> Teller<'a, P> {
 
     pub fn count(&self, text: &[u8], n: usize) {
         self.number(text, n as u64);
+    }
+
+    // a value of what a call answers, 0 beside a refusal
+    pub fn value<T: Drop, F: FnOnce(&T) -> usize>(
+        &self,
+        text: &[u8],
+        answer: &Result<T, Refused>,
+        value: F,
+    )
+        requires { F.IsAlwaysCallable value }
+    {
+        self.count(text, answer.as_ref().map_or(0, value));
     }
 
     pub fn digest(&self, name: &[u8], octets: &[u8]) {

@@ -93,6 +93,7 @@ impl Step {
 }
 
 // The numbers behind a step's word, eight at most, and zeros behind them.
+// kept: a row and a length: there is no heap, and the row is lent whole to the reader of numbers
 #[derive(Clone, Copy)]
 pub struct Numbers {
     row: [u64; 8],
