@@ -1,7 +1,8 @@
 // What the arguments ask for.
 ghost use Rattle.std.specs.Prelude.{◌≤◌};
 
-use crate::WATCH;
+use crate::{Stopped, WATCH};
+use program::Printed;
 use std::io::Write;
 use std::rt::{Env, Files};
 
@@ -57,33 +58,36 @@ pub struct Output<'a, F> {
 
 impl<'a, F: Write> Output<'a, F> {
     // Where octets cannot be written, that is said.
-    pub fn put(&mut self, octets: &[u8]) -> bool {
-        match self.file.write_all(octets) {
-            Ok(()) => true,
-            Err(why) => {
-                WATCH.fail(self.name, why);
-                false
-            }
+    pub fn put(&mut self, octets: &[u8]) -> Printed {
+        let written = self.file.write_all(octets);
+        if let Err(why) = written {
+            WATCH.fail(self.name, why);
         }
+        written
     }
 }
 
-// The file that argument `at` names, made or emptied. Where it cannot be, that is said.
-pub fn create<'a, R: Env + Files>(
-    rt: &R,
-    at: usize,
-    room: &'a mut [u8],
-) -> Option<Output<'a, R::File>> {
-    let Ok(n) = rt.arg(at, room) else {
-        WATCH.say("the name of the payload's file is missing, or is too long");
-        return None;
-    };
-    let name = &room[..n];
-    match program::create_file(rt, name) {
-        Ok(file) => Some(Output { file, name }),
-        Err(why) => {
-            WATCH.fail(name, why);
-            None
+impl Asked {
+    // The payload's file, made or emptied, if one is asked for. Where it cannot be, that is said.
+    pub fn create<'a, R: Env + Files>(
+        self,
+        rt: &R,
+        room: &'a mut [u8],
+    ) -> Result<Option<Output<'a, R::File>>, Stopped> {
+        let Some(at) = self.payload else {
+            return Ok(None);
+        };
+        let Ok(n) = rt.arg(at, room) else {
+            WATCH.say("the name of the payload's file is missing, or is too long");
+            return Err(Stopped::Failed);
+        };
+        let name = &room[..n];
+        match program::create_file(rt, name) {
+            Ok(file) => Ok(Some(Output { file, name })),
+            Err(why) => {
+                WATCH.fail(name, why);
+                Err(Stopped::Failed)
+            }
         }
     }
 }

@@ -15,7 +15,6 @@ use ear::Heard;
 use printed::Report;
 use program::{Input, Kind, Program};
 use std::io::{Read, Write};
-use std::rt::Files;
 use stream::Stream;
 
 const WATCH: Program<'static> = Program {
@@ -76,20 +75,17 @@ impl Watched {
         requires { Few self.old.heard.now (2 ^ 39) × (length payload.now ≤ 5952) }
         ensures { (self.new.came ≡ self.old.came) × Adds 192 self.old.heard.now self.new.heard.now }
     {
-        let mut printed = Ok(());
-        if ends.phones {
-            printed = self.heard.hear(rt, payload);
-            WATCH.written(printed);
-        }
-        let is_put = match &mut ends.payload {
-            Some(output) => output.put(payload),
-            None => true,
-        };
-        if printed.is_ok() & is_put {
-            Ok(())
+        let printed = if ends.phones {
+            self.heard.hear(rt, payload)
         } else {
-            Err(Stopped::Failed)
-        }
+            Ok(())
+        };
+        WATCH.written(printed);
+        let put = match &mut ends.payload {
+            Some(output) => output.put(payload),
+            None => Ok(()),
+        };
+        printed.and(put).map_err(|_| Stopped::Failed)
     }
 
     // A chunk comes. With 4,096 octets no more than 12 multiframes leave.
@@ -174,30 +170,17 @@ fn main(rt: HostRuntime) {
     };
     let Input { source: line, n } = input;
     let name = &from[..n];
-    let Some(at) = given.payload else {
-        let payload: Option<Output<<HostRuntime as Files>::File>> = None;
-        watch(
-            &rt,
-            &mut Ends {
-                line,
-                name,
-                payload,
-                phones,
-            },
-        );
+    let mut to = io::buffer();
+    let Ok(payload) = given.create(&rt, &mut to) else {
         return;
     };
-    let mut to = io::buffer();
-    let payload = asked::create(&rt, at, &mut to);
-    if payload.is_some() {
-        watch(
-            &rt,
-            &mut Ends {
-                line,
-                name,
-                payload,
-                phones,
-            },
-        );
-    }
+    watch(
+        &rt,
+        &mut Ends {
+            line,
+            name,
+            payload,
+            phones,
+        },
+    );
 }
