@@ -14,6 +14,7 @@ use exchange::State;
 use parse::Asked;
 use program::{Input, Kind, Program};
 use std::io::{IsTerminal, Read};
+use std::ops::ControlFlow;
 use std::rt::Files;
 
 const CONSOLE: Program<'static> = Program {
@@ -85,7 +86,7 @@ fn play(
     state: &mut State,
     source: &mut (impl Read + IsTerminal),
     name: &[u8],
-) -> bool
+) -> ControlFlow<()>
     ensures { Follows state.old state.new }
 {
     let mut line = [0u8; 81];
@@ -102,14 +103,17 @@ fn play(
     let answered = call(state, asked, &octets);
     let ok = prompted.and(tell::answer(rt, &before, state, answered, asked, &octets, line));
     CONSOLE.written(ok);
-    ok.is_ok() & typed.more & !matches!(asked, Asked::Quit)
+    if ok.is_err() || !typed.more || matches!(asked, Asked::Quit) {
+        return ControlFlow::Break(());
+    }
+    ControlFlow::Continue(())
 }
 
 // Nothing says that the input ends, so its lines are counted.
 fn dialogue(rt: &(impl Files + Print), source: &mut (impl Read + IsTerminal), name: &[u8]) {
     let mut state = State::start();
     for _line in 0..u64::MAX {
-        if !play(rt, &mut state, source, name) {
+        if play(rt, &mut state, source, name).is_break() {
             break;
         }
     }

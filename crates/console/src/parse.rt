@@ -65,12 +65,9 @@ impl Command {
 
     // the one with this word
     fn named(word: &[u8]) -> Option<Command> {
-        for command in COMMANDS {
-            if first_word(command.help().as_bytes()).0 == word {
-                return Some(command);
-            }
-        }
-        None
+        COMMANDS
+            .into_iter()
+            .find(|command| first_word(command.help().as_bytes()).0 == word)
     }
 }
 
@@ -106,6 +103,15 @@ pub enum Asked {
     Quit,
 }
 
+// the kinds of a host record
+pub const STAGE: u64 = 1;
+
+pub const COMMIT: u64 = 2;
+
+pub const READ: u64 = 3;
+
+pub const DROP: u64 = 4;
+
 // A number that no octet holds goes as 255, which is no slot either, so that it is refused as any that is none.
 fn slot(x: u64) -> u64 {
     x.min(255)
@@ -125,17 +131,20 @@ fn record(numbers: &[u64], octets: &mut [u8]) -> Asked
     Asked::Host(numbers.len())
 }
 
-// what a command asks for, with the numbers behind it; stage, commit, read and drop are the kinds 1 to 4 of a host record
+// what a command asks for, with the numbers behind it
 fn meaning(command: Command, numbers: &[u64], octets: &mut [u8]) -> Asked
     requires { (length numbers.now ≤ 8) × (8 ≤ length octets.old) }
     ensures { IsPrefixLen (octet_count result) octets.new }
 {
     match (command, numbers) {
         (Command::Key, [position]) => Asked::Key(*position),
-        (Command::Stage, [output, input]) => record(&[1, slot(*output), slot(*input), 0], octets),
-        (Command::Commit, []) => record(&[2, 0, 0, 0], octets),
-        (Command::Read, [output]) => record(&[3, slot(*output), 0, 0], octets),
-        (Command::Drop, []) => record(&[4, 0, 0, 0], octets),
+        (Command::Stage, [output, input]) => record(
+            &[STAGE, slot(*output), slot(*input), 0],
+            octets,
+        ),
+        (Command::Commit, []) => record(&[COMMIT, 0, 0, 0], octets),
+        (Command::Read, [output]) => record(&[READ, slot(*output), 0, 0], octets),
+        (Command::Drop, []) => record(&[DROP, 0, 0, 0], octets),
         (Command::Record, _) => record(numbers, octets),
         (Command::Boundary, []) => Asked::Boundary,
         (Command::Map, []) => Asked::Show(Shown::Map),

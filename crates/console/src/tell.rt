@@ -2,7 +2,7 @@
 ghost use Rattle.std.specs.Prelude.{◌≤◌, length};
 
 use crate::CONSOLE;
-use crate::parse::{Asked, COMMANDS, Shown, Wrong, second_word};
+use crate::parse::{Asked, COMMANDS, COMMIT, READ, STAGE, Shown, Wrong, second_word};
 use base::Refused;
 use exchange::State;
 use program::Printed;
@@ -31,13 +31,13 @@ fn takes(rt: &impl Print, output: u8, input: u8) -> Printed {
 fn host(rt: &impl Print, octets: &[u8], entry: u8) -> Printed
     requires { 8 ≤ length octets.now }
 {
-    match octets[0] {
-        1 => {
+    match octets[0] as u64 {
+        STAGE => {
             print!(rt; "0: staged: ")?;
             takes(rt, octets[1], octets[2])
         }
-        2 => println!(rt; "0: committed: the staged map waits for the boundary"),
-        3 => {
+        COMMIT => println!(rt; "0: committed: the staged map waits for the boundary"),
+        READ => {
             print!(rt; "0: ")?;
             takes(rt, octets[1], entry)
         }
