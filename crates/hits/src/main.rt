@@ -17,34 +17,40 @@ const HITS: Program<'static> = Program {
     kind: Kind::E1,
 };
 
-// what both bits add to the check, behind what is said of them
-fn print_shares(rt: &impl Print, form: Form, a: usize, b: usize) -> Printed
-    requires { (a < (numbers_of form).bits) × (b < (numbers_of form).bits) }
-{
-    let width = form.width();
-    let first = form.share(a);
-    let second = form.share(b);
-    let both = first ^ second;
-    println!(rt; "bit {a} adds {first:0width$b} to the check")?;
-    println!(rt; "bit {b} adds {second:0width$b} to the check")?;
-    println!(rt; "together they add {both:0width$b}")
+// two hits on bits of one block
+#[derive(Clone, Copy)]
+struct Hits {
+    form: Form,
+    a: usize,
+    b: usize,
+    ghost inside: { (a < (numbers_of form).bits) × (b < (numbers_of form).bits) },
 }
 
-fn print_hidden(rt: &impl Print, form: Form, a: usize, b: usize, apart: usize) -> Printed
-    requires { (a < (numbers_of form).bits) × (b < (numbers_of form).bits) }
-{
-    let order = form.order();
-    let times = apart / order;
-    println!(rt; "unseen: {apart} apart, {times} times {order}")?;
-    print_shares(rt, form, a, b)
-}
+impl Hits {
+    // what both bits add to the check, behind what is said of them
+    fn print_shares(self, rt: &impl Print) -> Printed {
+        let Hits { form, a, b } = self;
+        let width = form.width();
+        let first = form.share(a);
+        let second = form.share(b);
+        let both = first ^ second;
+        println!(rt; "bit {a} adds {first:0width$b} to the check")?;
+        println!(rt; "bit {b} adds {second:0width$b} to the check")?;
+        println!(rt; "together they add {both:0width$b}")
+    }
 
-fn print_seen(rt: &impl Print, form: Form, a: usize, b: usize, apart: usize) -> Printed
-    requires { (a < (numbers_of form).bits) × (b < (numbers_of form).bits) }
-{
-    let order = form.order();
-    println!(rt; "seen: {apart} apart, no multiple of {order}")?;
-    print_shares(rt, form, a, b)
+    fn print_hidden(self, rt: &impl Print, apart: usize) -> Printed {
+        let order = self.form.order();
+        let times = apart / order;
+        println!(rt; "unseen: {apart} apart, {times} times {order}")?;
+        self.print_shares(rt)
+    }
+
+    fn print_seen(self, rt: &impl Print, apart: usize) -> Printed {
+        let order = self.form.order();
+        println!(rt; "seen: {apart} apart, no multiple of {order}")?;
+        self.print_shares(rt)
+    }
 }
 
 fn say_outside(form: Form) {
@@ -76,8 +82,8 @@ fn answer(rt: &impl Print, form: Form, a: usize, b: usize) {
         Verdict::Outside => say_outside(form),
         Verdict::NoData { bit } => say_no_data(form, bit),
         Verdict::OneBit { bit } => say_one_bit(bit),
-        Verdict::Hidden { apart } => HITS.written(print_hidden(rt, form, a, b, apart)),
-        Verdict::Seen { apart } => HITS.written(print_seen(rt, form, a, b, apart)),
+        Verdict::Hidden { apart } => HITS.written(Hits { form, a, b }.print_hidden(rt, apart)),
+        Verdict::Seen { apart } => HITS.written(Hits { form, a, b }.print_seen(rt, apart)),
     }
 }
 
