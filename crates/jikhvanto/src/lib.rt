@@ -31,9 +31,7 @@ fn map_at(octets: &[u8], at: usize) -> [u8; 32]
     requires { at + 32 ≤ length octets.now }
     ensures { result ≡ map_at at octets.now }
 {
-    let mut map = [0; 32];
-    map.copy_from_slice(&octets[at..at + 32]);
-    map
+    *octets[at..at + 32].as_array().unwrap()
 }
 
 // the state that the octets are; neither type is declared here, so this is no `From`
@@ -51,7 +49,7 @@ fn unpack(octets: &[u8; 99]) -> State
     }
 }
 
-// the octets of a state
+// the octets of a state; no `From` either
 fn pack(state: State) -> [u8; 99]
     ensures { result ≡ octets_of state }
 {
@@ -101,7 +99,7 @@ fn found_by(number: u64, place: usize, k: usize) -> Found
     }
 }
 
-// the stream that the octets are
+// the stream that the octets are; no `From`, as neither is declared here
 #[tactic(auto, unfolding(crate::specs::Stream::stream_of))]
 fn unpack_stream(octets: &[u8; 2144]) -> Stream
     ensures { result ≡ stream_of octets.now }
@@ -128,7 +126,7 @@ fn unpack_stream(octets: &[u8; 2144]) -> Stream
     }
 }
 
-// the number of what is found
+// the number of what is found, as C keeps it
 fn found_number(found: Found) -> u64
     ensures { result ≡ found_number found }
 {
