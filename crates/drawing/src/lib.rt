@@ -21,25 +21,28 @@ use read::Reading;
 use signals::Signalling;
 use std::io::{Result, Write};
 
-// how many multiframes are drawn: those that are used, and one in which alignment is lost, if it is
-fn drawn(r: Reading) -> usize
-    requires { r.used ≤ 16 }
-    ensures { result ≤ 17 }
-{
-    r.used + r.loss.is_some() as usize
+// a line, and what `read` read of it
+#[derive(Clone, Copy)]
+struct Drawn<'a> {
+    image: &'a [u8],
+    r: Reading,
+    ghost shown: { Shown (length image.now) r },
+}
+
+impl<'a> Drawn<'a> {
+    // how many multiframes are drawn: those that are used, and one in which alignment is lost, if it is
+    fn multiframes(self) -> usize
+        ensures { result ≤ 17 }
+    {
+        self.r.used + self.r.loss.is_some() as usize
+    }
 }
 
 // all but the multiframes
-fn page_of<W: Write>(
-    to: &mut W,
-    octets: usize,
-    r: Reading,
-    s: &Signalling,
-    asked: Option<Asked>,
-) -> Result<()>
-    requires { Shown octets r }
-{
-    let below = 372 + 68 * drawn(r);
+fn page_of<W: Write>(to: &mut W, line: Drawn, s: &Signalling, asked: Option<Asked>) -> Result<()> {
+    let octets = line.image.len();
+    let r = line.r;
+    let below = 372 + 68 * line.multiframes();
     page(to, 1080, below + 138)?;
     legend::style(to)?;
     write!(
@@ -47,7 +50,7 @@ fn page_of<W: Write>(
         "<text class='title' x='24' y='40'>A line of {octets} octets</text>\n"
     )?;
     report::report(to, r)?;
-    ruler::ruler(to, octets, r, asked)?;
+    ruler::ruler(to, line, asked)?;
     slot16::slot16(to, octets, r.start, s)?;
     legend::legend(to, below)
 }
@@ -63,8 +66,9 @@ pub fn line<W: Write + Drop>(
 ) -> Result<()>
     requires { Shown (length image.now) r }
 {
-    page_of(&mut to, image.len(), r, s, asked)?;
-    multiframes::multiframes(&mut to, image, slot0, r)?;
+    let line = Drawn { image, r };
+    page_of(&mut to, line, s, asked)?;
+    multiframes::multiframes(&mut to, line, slot0)?;
     if let Some(asked) = asked {
         asked::outlined(&mut to, r, asked)?;
     }

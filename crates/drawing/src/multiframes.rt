@@ -1,11 +1,9 @@
 // The multiframes of a line, two rows each: a block's eight frames, and how it compares with the check behind it.
 ghost use Rattle.std.specs.Prelude.{◌≡◌, ◌<◌, ◌≤◌, length};
-ghost use Rattle.drawing.specs.Shown.{Shown};
 ghost use Rattle.drawing.specs.Marks.{mark_of};
 
-use crate::frames;
+use crate::{Drawn, frames};
 use crc::table::Remainders;
-use read::Reading;
 use std::io::{Result, Write};
 
 // how a block compares
@@ -17,10 +15,10 @@ enum Mark {
 }
 
 // block b from the start on
-fn mark_of(image: &[u8], r: Reading, b: usize) -> Mark
-    requires { Shown (length image.now) r }
-    ensures { result ≡ mark_of image.now r.start r.compared b }
+fn mark_of(line: Drawn, b: usize) -> Mark
+    ensures { result ≡ mark_of line.entry.image.now line.entry.r.start line.entry.r.compared b }
 {
+    let Drawn { image, r } = line;
     if r.compared <= b {
         return Mark::NotCompared;
     }
@@ -59,30 +57,22 @@ fn opened<W: Write>(to: &mut W, m: usize) -> Result<()>
 }
 
 // multiframe m, its frames as they stand in slot0
-fn multiframe<W: Write>(
-    to: &mut W,
-    image: &[u8],
-    slot0: &[u8; 256],
-    r: Reading,
-    m: usize,
-) -> Result<()>
-    requires { Shown (length image.now) r × (m < 16) }
+fn multiframe<W: Write>(to: &mut W, line: Drawn, slot0: &[u8; 256], m: usize) -> Result<()>
+    requires { m < 16 }
 {
     opened(to, m)?;
     for f in 16 * m..16 * m + 16 {
         frames::frame(to, slot0, f)?;
     }
-    print_mark(to, mark_of(image, r, 2 * m), 0)?;
-    print_mark(to, mark_of(image, r, 2 * m + 1), 28)?;
+    print_mark(to, mark_of(line, 2 * m), 0)?;
+    print_mark(to, mark_of(line, 2 * m + 1), 28)?;
     to.write_all(b"</g>\n")
 }
 
 // those that are used
-pub fn multiframes<W: Write>(to: &mut W, image: &[u8], slot0: &[u8; 256], r: Reading) -> Result<()>
-    requires { Shown (length image.now) r }
-{
-    for m in 0..r.used {
-        multiframe(to, image, slot0, r, m)?;
+pub fn multiframes<W: Write>(to: &mut W, line: Drawn, slot0: &[u8; 256]) -> Result<()> {
+    for m in 0..line.r.used {
+        multiframe(to, line, slot0, m)?;
     }
     Ok(())
 }

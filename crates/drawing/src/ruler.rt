@@ -1,11 +1,9 @@
 // The whole line as one bar: where alignment is found, the multiframes, and where alignment is lost.
 ghost use Rattle.std.specs.Prelude.{◌<◌, ◌≤◌};
-ghost use Rattle.drawing.specs.Shown.{Shown};
 
-use crate::asked;
 use crate::asked::Asked;
 use crate::report::by_rule;
-use read::Reading;
+use crate::{Drawn, asked};
 use std::io::{Result, Write};
 
 // how far along the bar a place of a line of so many octets stands
@@ -28,9 +26,9 @@ fn multiframe<W: Write>(to: &mut W, x: usize, width: usize, m: usize, is_used: b
     )
 }
 
-fn multiframes<W: Write>(to: &mut W, octets: usize, r: Reading) -> Result<()>
-    requires { Shown octets r }
-{
+fn multiframes<W: Write>(to: &mut W, line: Drawn) -> Result<()> {
+    let Drawn { image, r } = line;
+    let octets = image.len();
     let width = along(octets, 4096);
     for m in 0..r.whole {
         let x = along(octets, r.start + 4096 * m);
@@ -51,13 +49,12 @@ pub fn beside<W: Write>(to: &mut W, x: usize, y: usize) -> Result<()> {
 }
 
 // where alignment is lost, if it is, and by which rule
-fn loss<W: Write>(to: &mut W, octets: usize, r: Reading) -> Result<()>
-    requires { Shown octets r }
-{
+fn loss<W: Write>(to: &mut W, line: Drawn) -> Result<()> {
+    let Drawn { image, r } = line;
     let Some(frame) = r.loss else {
         return Ok(());
     };
-    let x = along(octets, r.start + 4096 * r.used + 256 * (frame % 16));
+    let x = along(image.len(), r.start + 4096 * r.used + 256 * (frame % 16));
     let rule = by_rule(frame);
     write!(to, "<path d='M{x} 0V54'/>")?;
     beside(to, x, 54)?;
@@ -65,11 +62,10 @@ fn loss<W: Write>(to: &mut W, octets: usize, r: Reading) -> Result<()>
 }
 
 // where alignment is found, and the first bit of a multiframe
-fn found<W: Write>(to: &mut W, octets: usize, r: Reading) -> Result<()>
-    requires { Shown octets r }
-{
-    let place = r.place;
-    let start = r.start;
+fn found<W: Write>(to: &mut W, line: Drawn) -> Result<()> {
+    let octets = line.image.len();
+    let place = line.r.place;
+    let start = line.r.start;
     let x = along(octets, place);
     write!(
         to,
@@ -83,17 +79,15 @@ fn found<W: Write>(to: &mut W, octets: usize, r: Reading) -> Result<()>
 }
 
 // the marks that reach down furthest come first, so that the words of the others lie over them
-pub fn ruler<W: Write>(to: &mut W, octets: usize, r: Reading, asked: Option<Asked>) -> Result<()>
-    requires { Shown octets r }
-{
+pub fn ruler<W: Write>(to: &mut W, line: Drawn, asked: Option<Asked>) -> Result<()> {
     to.write_all(
         b"<g transform='translate(24 168)'><rect class='rest' width='1032' height='24'/>\n",
     )?;
-    multiframes(to, octets, r)?;
+    multiframes(to, line)?;
     if let Some(asked) = asked {
-        asked::marked(to, octets, asked)?;
+        asked::marked(to, line.image.len(), asked)?;
     }
-    loss(to, octets, r)?;
-    found(to, octets, r)?;
+    loss(to, line)?;
+    found(to, line)?;
     to.write_all(b"</g>\n")
 }
