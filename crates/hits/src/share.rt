@@ -19,6 +19,7 @@ fn step(w: usize, r: usize) -> usize
 }
 
 // of a 1 with k bits behind it: k zeros, and w more
+// kept: a loop: with `fold` the proofs that each `step` is given r < 2 ^ w, and of the share, did not close (tried)
 fn share(w: usize, k: usize) -> usize
     requires { (2 ≤ w) × (w ≤ 6) × (k ≤ 4632) }
     ensures { result ≡ share w k }
