@@ -80,6 +80,11 @@ far_is (At p k) = refl
 far_is (BasicAt p) = or-false (is_large p)
 far_is Nothing = refl
 
+-- one that has ended, or says that more of the window is filled than it holds, is over whatever its other numbers are
+pub over_so : (st : Stream) → st.ended || ltb 2048 st.fill ≡ true → is_over st ≡ true
+unfolding is_over
+over_so st e = rw e
+
 -- its test, in one row
 pub over_is : (st : Stream) (p k : ℕ) (large : Bool) → p ≡ place_of st.line.found → k ≡ k_of st.line.found
     → (let c = st.line in

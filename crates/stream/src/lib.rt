@@ -2,12 +2,11 @@
 // is lent.
 #![tactic(auto)]
 
-ghost use Rattle.std.specs.Prelude.{◌≡◌, false};
+ghost use Rattle.std.specs.Prelude.{◌≡◌};
 ghost use Rattle.std.specs.List.{list_any};
 ghost use Rattle.measure.specs.Reading.{lost_at, cause_of};
-ghost use Rattle.read.specs.Answer.{answered};
 ghost use Rattle.stream.specs.Answer.{fed_answer, end_answer};
-ghost use Rattle.stream.specs.Entry.{starting, is_large, is_over, octets_came, Feeds, cause_by, end_accept, ending};
+ghost use Rattle.stream.specs.Entry.{starting, is_large, is_over, Feeds, cause_by, ending};
 
 use align::Found;
 use base::Refused;
@@ -38,6 +37,9 @@ impl Stream {
     fn is_over(&self) -> bool
         ensures { result ≡ is_over self.now }
     {
+        if self.ended | (2048 < self.fill) {
+            return true;
+        }
         let line = self.line;
         let numbers = [
             line.found.place(),
@@ -50,36 +52,7 @@ impl Stream {
             line.farend,
             line.wordbits,
         ];
-        self.ended | (2048 < self.fill) | any_large(&numbers)
-    }
-
-    // the octets that came
-    fn came(&self) -> usize
-        requires { is_over self.now ≡ false }
-        ensures { result ≡ octets_came self.now }
-    {
-        self.line.before + self.fill
-    }
-
-    // what the line tells, of which a place stands
-    fn reading(&self) -> Reading
-        requires { is_over self.now ≡ false }
-        ensures { answered (Ok result) ≡ end_accept self.now }
-    {
-        let line = self.line;
-        let start = line.found.start();
-        Reading {
-            place: line.found.place(),
-            start,
-            whole: chunk::whole(self.came(), start),
-            used: line.used,
-            loss: loss_of(line.lost),
-            words: line.words,
-            compared: measure::compared(line.used),
-            errored: line.errored,
-            farend: line.farend,
-            wordbits: line.wordbits,
-        }
+        any_large(&numbers)
     }
 
     // A chunk comes: what leaves with it goes to the front of the two outputs, and that many multiframes are answered.
@@ -99,7 +72,8 @@ impl Stream {
         let Some(window) = window.as_mut_array::<2048>() else {
             return Err(Refused::Ended);
         };
-        if 16777216 < self.came() + chunk.len() {
+        let came = self.line.before + self.fill;
+        if 16777216 < came + chunk.len() {
             return Err(Refused::Endless);
         }
         let took = chunk::take(self.line, self.fill, chunk, window, payload, slot0)?;
@@ -115,14 +89,27 @@ impl Stream {
         if self.is_over() {
             return Err(Refused::Ended);
         }
-        if self.came() < 2048 {
+        let line = self.line;
+        let came = line.before + self.fill;
+        if came < 2048 {
             return Err(Refused::TooShort);
         }
-        match self.line.found {
-            Found::At { place: _, k: _ } => {
-                let reading = self.reading();
+        match line.found {
+            Found::At { place, k: _ } => {
                 self.ended = true;
-                Ok(reading)
+                let start = line.found.start();
+                Ok(Reading {
+                    place,
+                    start,
+                    whole: chunk::whole(came, start),
+                    used: line.used,
+                    loss: loss_of(line.lost),
+                    words: line.words,
+                    compared: measure::compared(line.used),
+                    errored: line.errored,
+                    farend: line.farend,
+                    wordbits: line.wordbits,
+                })
             }
             Found::BasicAt { place } => Err(Refused::NoSignals { place }),
             Found::Nothing => Err(Refused::NoFrames),

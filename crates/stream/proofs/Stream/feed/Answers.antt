@@ -20,8 +20,10 @@ returns-in_default c =
     (with_21 a.self.now a.window.now a.chunk.now a.payload.now a.slot0.now (narrow a.self.now a.window.now c.in_default.ensures.cases))
 
 pub overflow_add-came : goal.overflow_add-came
-overflow_add-came c =
-    let h = sound c.args.self.now (sym c.if-is_over.ensures) in omega (arith, c.came.ensures, h.fill, h.small.before)
+overflow_add-came c = let h = sound c.args.self.now (sym c.if-is_over.ensures) in omega (arith, h.fill, h.small.before)
+
+pub overflow_add-came-2 : goal.overflow_add-came-2
+overflow_add-came-2 c = let h = sound c.args.self.now (sym c.if-is_over.ensures) in omega (arith, h.fill, h.small.before)
 
 -- the window as an array
 pub returns-then-came-chunk-gt16777216 : goal.returns-then-came-chunk-gt16777216
@@ -34,7 +36,7 @@ returns-then-came-chunk-gt16777216 c =
     (refused_as a.self.now a.window.now a.chunk.now a.payload.now a.slot0.now 16
     (with_17 a.self.now a.window.now a.chunk.now a.payload.now a.slot0.now
     (opened a.self.now a.window.now (sym c.if-is_over.ensures) c.in-Some.ensures.cases.long)
-    (lt-ltb _ _ (rw c.came.ensures at c.if-came-chunk-gt16777216.true))))
+    (lt-ltb _ _ c.if-came-chunk-gt16777216.true)))
 
 pub take-requires : goal.take-requires
 take-requires c = let h = sound c.args.self.now (sym c.if-is_over.ensures) in (h.small, h.fill, omega arith)
@@ -50,7 +52,7 @@ returns-in_err-took c =
     rw (r.1, r.2)
     (not_taken a.self.now a.window.now a.chunk.now a.payload.now a.slot0.now
     (opened a.self.now a.window.now (sym c.if-is_over.ensures) c.in-Some.ensures.cases.long)
-    (le-ltb _ _ (rw c.came.ensures at c.if-came-chunk-gt16777216.false)) _ _ _ _ t _ c.in_err-took.was)
+    (le-ltb _ _ c.if-came-chunk-gt16777216.false) _ _ _ _ t _ c.in_err-took.was)
 
 pub returns : goal.returns
 returns c =
@@ -67,4 +69,4 @@ returns c =
     (sym h.going)
     (taken a.self.now a.window.now a.chunk.now a.payload.now a.slot0.now
     (opened a.self.now a.window.now (sym c.if-is_over.ensures) c.in-Some.ensures.cases.long)
-    (le-ltb _ _ (rw c.came.ensures at c.if-came-chunk-gt16777216.false)) _ _ _ _ t _ c.in_ok-took.was)
+    (le-ltb _ _ c.if-came-chunk-gt16777216.false) _ _ _ _ t _ c.in_ok-took.was)
