@@ -137,14 +137,16 @@ const TABLE: [[u8; 256]; 16] = [
 ];
 
 // It is lent on: wherever the constant stands it is laid out anew.
-#[derive(Drop)]
+#[derive(Clone, Copy)]
 pub struct Remainders {
-    rows: [[u8; 256]; 16],
-    ghost computed: { rows ≡ remainders },
+    pub rows: [[u8; 256]; 16],
+    pub ghost computed: { rows ≡ remainders },
 }
 
 impl Remainders {
-    pub fn new() -> Remainders {
+    pub fn new() -> Remainders
+        ensures { result.rows ≡ remainders }
+    {
         Remainders { rows: TABLE }
     }
 
