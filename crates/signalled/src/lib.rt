@@ -53,6 +53,16 @@ impl Signalled<'_> {
 impl Payload for Signalled<'_> {
     ghost octets = { λ s. with_slot16 s.payload.now s.xy.now s.abcd.now };
 
+    #[tactic(auto, using(crate::proofs::Laws::with_length))]
+    fn multiframe(&self, m: usize) -> Self {
+        let v = 30 * m;
+        Signalled {
+            payload: self.payload.multiframe(m),
+            xy: &self.xy[m..m + 1],
+            abcd: &self.abcd[v..v + 30],
+        }
+    }
+
     fn frame(&self, f: usize) -> [u8; 31] {
         let mut octets = self.payload.frame(f);
         octets[15] = self.slot_16(f);

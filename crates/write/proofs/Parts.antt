@@ -2,12 +2,13 @@
 use Prim.Native.Nat.{ℕ, zero, suc, ◌+◌, ◌-◌, ◌*◌, ◌/◌, ◌%◌, ◌≤◌, ◌<◌}
 use mathlib.Core.Path.{◌≡◌, refl, sym, ap, ap₂, ◌∙◌}
 use mathlib.Core.Bool.{false, cond}
-use mathlib.Core.List.{List, [], ◌∷◌, ◌++◌, append-nil, append_assoc}
+use mathlib.Core.List.{List, [], ◌∷◌, ◌++◌, append-nil}
+use native.Mathlib.Decide.{dec_lt}
 use native.Mathlib.Omega.{arith}
 use borrow.Author.Tests.{ne_eqb}
 use borrow.Rule.Slice.PartMut.{put_mid, drop_put}
 use lib.Dec.{eqb}
-use lib.ListN.{length, get_or, take, drop, length-append, length-drop, drop_of_length-le, take-append-drop}
+use lib.ListN.{length, get_or, take, drop, length-drop, drop_of_length-le, take-append-drop, get_or-eq_default}
 use lib.Seq.{get_or-take, get_or-drop, drop-drop, take_at, drop_at}
 use Rattle.std.specs.List.{between}
 use Rattle.base.specs.Tab.{tab}
@@ -16,8 +17,9 @@ use Rattle.base.proofs.PartLaws.{part_more, part_length, take_put_more}
 use Rattle.e1.specs.Block.{block_check}
 use Rattle.e1.specs.Payload.{index_of}
 use Rattle.write.specs.Writing.{slot0, octet_in, block, carries, written}
-use Rattle.write.specs.Inputs.{BlockInputs, Inputs, check_within, multiframe, check_behind}
-use Rattle.write.proofs.Laws.{length_block}
+use Rattle.write.specs.Inputs.{Inputs}
+use Rattle.write.proofs.Laws.{limit_range, length_block, length_written}
+use Rattle.write.proofs.Joins.{same_carries, same_written, later_carries, later_written}
 
 -- octet i of block b
 abbrev pub block_octet : List ℕ → List ℕ → ℕ → ℕ → ℕ → ℕ
@@ -74,56 +76,82 @@ two_parts n xs y z lx ly =
     let e : drop n (drop n (y ++ r)) ≡ [] = ap (drop n) (drop_at y r n ly) ∙ drop_of_length-le r {i = n} (omega (arith, length-drop n (drop 0 xs))) in
     ap₂ (λ u v. u ++ (z ++ v)) (take_at y r n ly) e ∙ ap (λ v. y ++ v) (append-nil z)
 
-length_multiframe : (p o : List ℕ) (k m : ℕ) → length (multiframe p o k m) ≡ 512
-length_multiframe p o k m =
-    length-append (block p o k (2 * m)) (block p o (check_within p o k m) (2 * m + 1))
-    ∙ ap₂ (λ a b. a + b) (length_block p o k (2 * m)) (length_block p o (check_within p o k m) (2 * m + 1))
+-- the two blocks of a multiframe
+pub multiframe_done : (p o : List ℕ) (k : ℕ) (xs y z : List ℕ) (c d : ℕ) → length xs ≡ 512
+    → y ≡ block p o k 0 → c ≡ block_check y 0 → z ≡ block p o c 1 → d ≡ block_check z 0
+    → (put_mid 256 256 (put_mid 0 256 xs y) z ≡ written p o k 2) × (d ≡ carries p o k 2)
+unfolding written carries
+multiframe_done p o k xs y z c d lx ey ec ez ed =
+    let ec' : c ≡ carries p o k 1 = ec ∙ ap (λ l. block_check l 0) ey in
+    let ez' : z ≡ block p o (carries p o k 1) 1 = ez ∙ ap (λ x. block p o x 1) ec' in (
+      two_parts 256 xs y z lx (ap length ey ∙ length_block p o k 0) ∙ ap₂ (λ u v. u ++ v) ey ez',
+      ed ∙ ap (λ l. block_check l 0) ez',
+    )
 
-pub multiframe_inputs : (p o : List ℕ) (c n k m : ℕ) → Inputs p o c n → m < n → k < 16 → BlockInputs p o k (2 * m + 1)
-multiframe_inputs p o c n k m g h hk =
-    record { payload_length = omega arith; overhead_length = omega arith; limited = g.limited; four_bits = hk }
+-- multiframe m's part of the payload and of the overhead
+abbrev pub payload_part : ℕ → List ℕ → List ℕ
+payload_part m p = between (496 * m) (496 * m + 496) p
 
-pub first_inputs : (p o : List ℕ) (k m : ℕ) → BlockInputs p o k (2 * m + 1) → BlockInputs p o k (2 * m)
-first_inputs p o k m g =
-    record { payload_length = omega arith; overhead_length = omega arith; limited = g.limited; four_bits = g.four_bits }
+abbrev pub overhead_part : ℕ → List ℕ → List ℕ
+overhead_part m o = between (8 * m) (8 * m + 8) o
 
--- one multiframe more, of output xs₀
+pub part_inputs : (p o : List ℕ) (c n m k : ℕ) → Inputs p o c n → m < n → k < 16
+    → Inputs (payload_part m p) (overhead_part m o) k 1
+part_inputs p o c n m k g h hk =
+    record {
+      payload_length = part_length (496 * m) (496 * m + 496) p (omega arith) ∙ omega arith;
+      overhead_length = part_length (8 * m) (8 * m + 8) o (omega arith) ∙ omega arith;
+      limited = λ i.
+          elim (dec_lt i 8) [
+            | yes l ↦
+                let e : (8 * m + i) % 8 ≡ i % 8 = omega arith in
+                rw (get_or-take (8 * m + 8 - 8 * m) (drop (8 * m) o) i 0 (omega arith), get_or-drop (8 * m) o i 0, ← e)
+                (g.limited (8 * m + i))
+            | no l ↦
+                let short = part_length (8 * m) (8 * m + 8) o (omega arith) in
+                rw (get_or-eq_default (overhead_part m o) 0 {n = i} (omega arith)) (limit_range i).0
+          ];
+      four_bits = hk;
+    }
+
 module _ (p o : List ℕ) (c m : ℕ) where
-  -- the check behind the blocks of multiframe m, and the blocks themselves
-  pub carried_on : (k : ℕ) → k ≡ carries p o c (2 * m) → check_behind p o k m ≡ carries p o c (2 * (m + 1))
-  unfolding carries
-  carried_on k e =
-      let n : suc (suc (2 * m)) ≡ 2 * (m + 1) = omega arith in
-      let s : 2 * m + 1 ≡ suc (2 * m) = omega arith in
-      ap (λ k. check_behind p o k m) e
-      ∙ ap (λ b. block_check (block p o (check_within p o (carries p o c (2 * m)) m) b) 0) s
-      ∙ ap (carries p o c) n
+  shown : ((i : ℕ) → i < 248 * 2 → get_or (payload_part m p) i 0 ≡ get_or (drop (496 * m) p) i 0)
+      × ((h : ℕ) → h < 4 * 2 → get_or (overhead_part m o) h 0 ≡ get_or (drop (8 * m) o) h 0)
+  shown = (
+    λ i l. get_or-take (496 * m + 496 - 496 * m) (drop (496 * m) p) i 0 (omega arith),
+    λ h l. get_or-take (8 * m + 8 - 8 * m) (drop (8 * m) o) h 0 (omega arith),
+  )
 
-  written_on : (k : ℕ) → k ≡ carries p o c (2 * m)
-      → written p o c (2 * m) ++ multiframe p o k m ≡ written p o c (2 * (m + 1))
-  unfolding written carries
-  written_on k e =
-      let n : suc (suc (2 * m)) ≡ 2 * (m + 1) = omega arith in
-      let s : 2 * m + 1 ≡ suc (2 * m) = omega arith in
-      let w = written p o c (2 * m) in
-      let a = block p o (carries p o c (2 * m)) (2 * m) in
-      ap (λ k. w ++ multiframe p o k m) e
-      ∙ ap (λ b. w ++ (a ++ block p o (check_within p o (carries p o c (2 * m)) m) b)) s
-      ∙ sym (append_assoc w a _)
-      ∙ ap (written p o c) n
+  two : 2 * m + 2 ≡ 2 * (m + 1)
+  two = omega arith
 
-  pub multiframe_more : (k : ℕ) (xs ys xs₀ : List ℕ) → 512 * m + 512 ≤ length xs → k ≡ carries p o c (2 * m)
-      → ys ≡ multiframe p o k m
+  next_carries : carries (payload_part m p) (overhead_part m o) (carries p o c (2 * m)) 2 ≡ carries p o c (2 * (m + 1))
+  next_carries =
+      same_carries (payload_part m p) (drop (496 * m) p) (overhead_part m o) (drop (8 * m) o)
+      (carries p o c (2 * m)) 2 shown
+      ∙ sym (later_carries p o m c 2) ∙ ap (carries p o c) two
+
+  next_written : written p o c (2 * m) ++ written (payload_part m p) (overhead_part m o) (carries p o c (2 * m)) 2 ≡ written p o c (2 * (m + 1))
+  next_written =
+      ap (λ l. written p o c (2 * m) ++ l)
+      (same_written (payload_part m p) (drop (496 * m) p) (overhead_part m o) (drop (8 * m) o) (carries p o c (2 * m)) 2 shown)
+      ∙ sym (later_written p o m c 2) ∙ ap (written p o c) two
+
+  -- one multiframe more, of output xs₀
+  pub all_more : (k d : ℕ) (xs ys xs₀ : List ℕ) → 512 * m + 512 ≤ length xs → k ≡ carries p o c (2 * m)
+      → ys ≡ written (payload_part m p) (overhead_part m o) k 2 → d ≡ carries (payload_part m p) (overhead_part m o) k 2
       → take (512 * m) xs ≡ written p o c (2 * m) → drop (512 * m) xs ≡ drop (512 * m) xs₀
-      → (take (512 * (m + 1)) (put_mid (512 * m) (512 * m + 512 - 512 * m) xs ys) ≡ written p o c (2 * (m + 1)))
+      → (d ≡ carries p o c (2 * (m + 1)))
+      × (take (512 * (m + 1)) (put_mid (512 * m) (512 * m + 512 - 512 * m) xs ys) ≡ written p o c (2 * (m + 1)))
       × (drop (512 * (m + 1)) (put_mid (512 * m) (512 * m + 512 - 512 * m) xs ys) ≡ drop (512 * (m + 1)) xs₀)
-  multiframe_more k xs ys xs₀ hx ek ey q r =
+  all_more k d xs ys xs₀ hx ek ey ed q r =
       let n : 512 * (m + 1) ≡ 512 * m + 512 = omega arith in
-      let l : length ys ≡ 512 * m + 512 - 512 * m =
-      ap length ey ∙ length_multiframe p o k m ∙ omega arith in
+      let l : length ys ≡ 512 * m + 512 - 512 * m = ap length ey ∙ length_written (payload_part m p) (overhead_part m o) k 2 ∙ omega arith in
       let z = put_mid (512 * m) (512 * m + 512 - 512 * m) xs ys in (
-        ap (λ x. take x z) n ∙ take_put_more (512 * m) (512 * m + 512) xs ys (written p o c (2 * m)) (omega arith) hx l q
-            ∙ ap (λ x. written p o c (2 * m) ++ x) ey ∙ written_on k ek,
+        ed ∙ ap (λ x. carries (payload_part m p) (overhead_part m o) x 2) ek ∙ next_carries,
+        ap (λ x. take x z) n
+            ∙ take_put_more (512 * m) (512 * m + 512) xs ys (written p o c (2 * m)) (omega arith) hx l q
+            ∙ ap (λ x. written p o c (2 * m) ++ x) (ey ∙ ap (λ x. written (payload_part m p) (overhead_part m o) x 2) ek) ∙ next_written,
         ap (λ x. drop x z) n ∙ drop_put (512 * m) (512 * m + 512) xs ys (omega arith) hx l
             ∙ sym (drop-drop 512 (512 * m) xs) ∙ ap (drop 512) r ∙ drop-drop 512 (512 * m) xs₀ ∙ ap (λ x. drop x xs₀) (sym n),
       )

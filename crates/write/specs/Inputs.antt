@@ -1,8 +1,7 @@
--- For private functions alone. What an accepted call is given, and a multiframe of it.
-use Rattle.std.specs.Prelude.{ℕ, ◌+◌, ◌*◌, ◌<◌, ◌≤◌, List, ◌++◌, ◌≡◌, length, get_or}
-use Rattle.e1.specs.Block.{block_check}
+-- For private functions alone, and for `write_all`, which `signalled` calls. What an accepted call is given, and a
+-- block of it.
+use Rattle.std.specs.Prelude.{ℕ, ◌+◌, ◌*◌, ◌<◌, ◌≤◌, List, ◌≡◌, length, get_or}
 use Rattle.write.specs.Entry.{overhead_limit}
-use Rattle.write.specs.Writing.{block}
 
 -- the payload p and the overhead o of n multiframes, no bit of the overhead set that must be 0, and a check c
 pub record Inputs (p o : List ℕ) (c n : ℕ) : Type 0 where
@@ -17,13 +16,3 @@ pub record BlockInputs (p o : List ℕ) (k b : ℕ) : Type 0 where
   pub overhead_length : 4 * b + 4 ≤ length o
   pub limited : (h : ℕ) → get_or o h 0 < overhead_limit h
   pub four_bits : k < 16
-
--- multiframe m, whose first block carries the check k, and its second that of the first; and the check of the second
-abbrev pub check_within : List ℕ → List ℕ → ℕ → ℕ → ℕ
-check_within p o k m = block_check (block p o k (2 * m)) 0
-
-abbrev pub multiframe : List ℕ → List ℕ → ℕ → ℕ → List ℕ
-multiframe p o k m = block p o k (2 * m) ++ block p o (check_within p o k m) (2 * m + 1)
-
-abbrev pub check_behind : List ℕ → List ℕ → ℕ → ℕ → ℕ
-check_behind p o k m = block_check (block p o (check_within p o k m) (2 * m + 1)) 0

@@ -9,7 +9,7 @@ ghost use Rattle.base.specs.Answer.{first_number};
 ghost use Rattle.base.specs.Number.{number_in};
 ghost use Rattle.write.specs.Answer.{answered};
 ghost use Rattle.write.specs.Entry.{overhead_limit, overhead_fits, faults, Wrote};
-ghost use Rattle.write.specs.Inputs.{BlockInputs, Inputs, multiframe, check_behind};
+ghost use Rattle.write.specs.Inputs.{BlockInputs, Inputs};
 
 use base::Refused;
 use crc::table::Remainders;
@@ -41,9 +41,14 @@ pub fn slot_0(k: u8, f: usize, x: u8) -> u8
     128 * bit_1(f, x) + 64 + x % 64
 }
 
-// a payload, taken frame by frame
-pub trait Payload {
+// a payload, taken multiframe by multiframe, and each frame by frame
+pub trait Payload: Copy {
     ghost octets: { Self → List ℕ };
+
+    // multiframe m, lent on as a part that begins in the middle
+    fn multiframe(&self, m: usize) -> Self
+        requires { 496 * m + 496 ≤ length (octets self.now) }
+        ensures { octets result ≡ between (496 * m) (496 * m + 496) (octets self.now) };
 
     // the octets of frame f, by value: they are read whole before any of them is written
     fn frame(&self, f: usize) -> [u8; 31]
@@ -54,6 +59,11 @@ pub trait Payload {
 // as it stands
 impl Payload for &[u8] {
     ghost octets = { λ p. p.now };
+
+    fn multiframe(&self, m: usize) -> Self {
+        let p = 496 * m;
+        &self[p..p + 496]
+    }
 
     fn frame(&self, f: usize) -> [u8; 31] {
         let p = 31 * f;
@@ -95,24 +105,23 @@ fn write_block<P: Payload>(
     e1::block_check(out, 0, k, table)
 }
 
-// multiframe m, of which the first block carries the check k: its two blocks, and the check of the second
+// a multiframe, of which the first block carries the check k: its two blocks, and the check of the second
 fn write_multiframe<P: Payload>(
     payload: &P,
     overhead: &[u8],
     k: u8,
-    m: usize,
     out: &mut [u8],
     table: &Remainders,
 ) -> u8
-    requires { BlockInputs (P.octets payload.now) overhead.now k (2 * m + 1) × (length out.old ≡ 512) }
-    ensures out_after { out.new ≡ multiframe (P.octets payload.now) overhead.now k m }
-    ensures value { (result ≡ check_behind (P.octets payload.now) overhead.now k m) × (result < 16) }
+    requires { Inputs (P.octets payload.now) overhead.now k 1 × (length out.old ≡ 512) }
+    ensures out_after { out.new ≡ written (P.octets payload.now) overhead.now k 2 }
+    ensures value { (result ≡ carries (P.octets payload.now) overhead.now k 2) × (result < 16) }
 {
-    let c = write_block(payload, overhead, k, 2 * m, &mut out[0..256], table);
-    write_block(payload, overhead, c, 2 * m + 1, &mut out[256..512], table)
+    let c = write_block(payload, overhead, k, 0, &mut out[0..256], table);
+    write_block(payload, overhead, c, 1, &mut out[256..512], table)
 }
 
-// n multiframes, each with its part of the output, and the check of the last block
+// n multiframes, each with its part of the payload, of the overhead and of the output, and the check of the last block
 pub fn write_all<P: Payload>(
     payload: &P,
     overhead: &[u8],
@@ -128,8 +137,15 @@ pub fn write_all<P: Payload>(
     let table = Remainders::new();
     let mut c = check;
     for m in 0..n {
+        let h = 8 * m;
         let a = 512 * m;
-        c = write_multiframe(payload, overhead, c, m, &mut out[a..a + 512], &table);
+        c = write_multiframe(
+            &payload.multiframe(m),
+            &overhead[h..h + 8],
+            c,
+            &mut out[a..a + 512],
+            &table,
+        );
     }
     c
 }

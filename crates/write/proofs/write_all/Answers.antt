@@ -1,8 +1,8 @@
-use Rattle.std.proofs.Common.{◌<◌, ◌*◌, ◌+◌, refl, ◌∙◌, arith}
+use Rattle.std.proofs.Common.{◌<◌, ◌*◌, ◌+◌, refl, ap, ◌∙◌, arith}
 use Rattle.base.proofs.PartLaws.{part_length}
 use Rattle.write.specs.Writing.{carries, written}
 use Rattle.write.proofs.Laws.{carries_lt}
-use Rattle.write.proofs.Parts.{multiframe_inputs, multiframe_more, carried_on, all_done}
+use Rattle.write.proofs.Parts.{overhead_part, part_inputs, all_more, all_done}
 use Rattle.write.proofs.write_all.Goals as goal
 
 pub loop-m-init : goal.loop-m-init
@@ -15,7 +15,7 @@ write_multiframe-c-requires g c =
     let l = c.loop-m in
     let p = g.P.Payload.octets a.payload.now in
     let k : l.c < 16 = rw l.invariant.0 (carries_lt p a.overhead.now a.check (2 * l.m) c.requires.0.four_bits) in (
-      multiframe_inputs p a.overhead.now a.check a.n l.c l.m c.requires.0 (omega arith) k,
+      rw c.multiframe.ensures (part_inputs p a.overhead.now a.check a.n l.m l.c c.requires.0 (omega arith) k),
       part_length (512 * l.m) (512 * l.m + 512) l.out (omega arith) ∙ omega arith,
     )
 
@@ -25,9 +25,10 @@ loop-m-preserved g c =
     let l = c.loop-m in
     let p = g.P.Payload.octets a.payload.now in
     let w = c.write_multiframe-c in
-    let e = multiframe_more p a.overhead.now a.check l.m l.c l.out w.new.out a.out.now
-    (omega arith) l.invariant.0 w.ensures.out_after l.invariant.1 l.invariant.2 in
-    (w.ensures.value.0 ∙ carried_on p a.overhead.now a.check l.m l.c l.invariant.0, e.0, e.1)
+    let part = c.multiframe.ensures in
+    all_more p a.overhead.now a.check l.m l.c w.result l.out w.new.out a.out.now (omega arith) l.invariant.0
+    (w.ensures.out_after ∙ ap (λ q. written q (overhead_part l.m a.overhead.now) l.c 2) part)
+    (w.ensures.value.0 ∙ ap (λ q. carries q (overhead_part l.m a.overhead.now) l.c 2) part) l.invariant.1 l.invariant.2
 
 pub returns : goal.returns
 returns g c =
