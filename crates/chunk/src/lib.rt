@@ -261,6 +261,17 @@ fn join(window: &[u8], chunk: &[u8], image: &mut [u8]) -> usize
     e
 }
 
+// Octets, to as many others. No `copy_from_slice`: for all that the compiler knows the two may overlap, and then it asks
+// whoever links the library for `memmove`.
+fn copy(from: &[u8], to: &mut [u8])
+    requires { length to.old ≡ length from.now }
+    ensures { to.new ≡ from.now }
+{
+    for (i, octet) in to.iter_mut().enumerate() {
+        *octet = from[i];
+    }
+}
+
 // what is kept of an image, to the front of the window: so many octets
 fn keep(s: &[u8], gone: usize, window: &mut [u8]) -> usize
     requires { (gone ≤ length s.now) × (length (drop gone s.now) ≤ length window.old) }
@@ -268,7 +279,7 @@ fn keep(s: &[u8], gone: usize, window: &mut [u8]) -> usize
         × (window.new ≡ over (drop gone s.now) window.old) }
 {
     let n = s.len() - gone;
-    window[..n].copy_from_slice(&s[gone..]);
+    copy(&s[gone..], &mut window[..n]);
     n
 }
 
