@@ -191,7 +191,12 @@ fn used(entry: u8) -> u8
 fn entries(map: &[u8; 32]) -> [u8; 32]
     ensures { result ≡ tab 32 (entry_at map.now) }
 {
-    map.map(used)
+    // `map.map(used)` takes 585 instructions more, a third of a call with one multiframe
+    let mut entries = [0; 32];
+    for (j, entry) in entries.iter_mut().enumerate() {
+        *entry = used(map[j]);
+    }
+    entries
 }
 
 // a frame by its slots, with 255 at 0: an entry is an index
