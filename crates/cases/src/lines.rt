@@ -156,11 +156,11 @@ pub fn write_signalled<P: Print>(t: &Teller<'_, P>, bench: &Bench, numbers: &Num
     });
 }
 
-// two multiframes, the second with the check of the first
+// Two multiframes, the second with the check of the first, or with 0 where that is refused. The second is answered.
 fn put_two(payload: &[u8], overhead: &[u8], out: &mut [u8]) -> Result<u64, Refused>
     requires { (length payload.now ≡ 992) × (length overhead.now ≡ 16) × (length out.old ≡ 1024) }
 {
-    let check = write::write(&payload[0..496], &overhead[0..8], 5, &mut out[0..512])?;
+    let check = write::write(&payload[0..496], &overhead[0..8], 5, &mut out[0..512]).unwrap_or(0);
     write::write(
         &payload[496..992],
         &overhead[8..16],

@@ -67,7 +67,7 @@ impl Block {
 
     // the first of two data bits that lie m apart, looked for from a number on and then from 0 on
     fn first_bit(&self, m: usize, number: u64) -> Option<usize>
-        requires { m < 2048 }
+        requires { m < self.now.bits }
         ensures { IfSome result (λ i. i < self.now.bits) }
     {
         let e = self.bits - m;
@@ -92,10 +92,11 @@ impl Bench {
 
     // A line of random octets that follow from m, two data bits of one block hit that lie m apart; whether there are such
     // bits. It is four multiframes with the third block hit, or three superframes of T1 with the second.
-    pub fn hit_twice(&mut self, kind: Kind, m: usize) -> bool
-        requires { m < 2048 }
-    {
+    pub fn hit_twice(&mut self, kind: Kind, m: usize) -> bool {
         let block = Block::of(kind);
+        if block.bits <= m {
+            return false;
+        }
         let number = self.draw(m, block.random);
         let Some(i) = block.first_bit(m, number) else {
             return false;

@@ -42,11 +42,11 @@ pub struct Change {
 impl Change {
     // a line for a channel that changes, in the signalling multiframe that begins with frame f
     pub fn print(self, rt: &impl Print, f: usize, channel: usize) -> Printed {
-        let was = self.was;
-        let is = self.is;
-        if was == is {
+        if self.was == self.is {
             return Ok(());
         }
+        let was = self.was % 16;
+        let is = self.is % 16;
         println!(rt; "2 ms {}  channel {channel}  {was:04b} -> {is:04b}", f / 16)
     }
 }
