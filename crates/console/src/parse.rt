@@ -23,7 +23,7 @@ pub enum Command {
 }
 
 // as help shows them
-pub const COMMANDS: [Command; 13] = [
+const COMMANDS: [Command; 13] = [
     Command::Key,
     Command::Stage,
     Command::Commit,
@@ -39,35 +39,34 @@ pub const COMMANDS: [Command; 13] = [
     Command::Exit,
 ];
 
+// what help shows, a line for each command; it is one text, so that it is one write
+pub const HELP: &str = "\
+    key N           turns the key: 1 is on, 0 is off\n\
+    stage OUT IN    stages that output slot OUT takes input slot IN, or 0 for idle\n\
+    commit          lets the staged map wait for the boundary\n\
+    read OUT        says which input slot output slot OUT takes\n\
+    drop            drops the staged map\n\
+    record K A B H  sends a host record by its octets, up to eight: kind, A, B, host\n\
+    boundary        is a multiframe boundary: the waiting map becomes the live one\n\
+    map             shows the live map: what output slots 1 to 31 take\n\
+    status          shows the key, and the live, the staged and the waiting map\n\
+    picture FILE    draws the live map into FILE, as SVG\n\
+    help            shows these lines\n\
+    quit            ends\n\
+    exit            ends, too\n";
+
 impl Command {
     // its line of the help, which begins with its word
     pub fn help(self) -> &'static str {
-        match self {
-            Command::Key => "key N           turns the key: 1 is on, 0 is off",
-            Command::Stage =>
-                "stage OUT IN    stages that output slot OUT takes input slot IN, or 0 for idle",
-            Command::Commit => "commit          lets the staged map wait for the boundary",
-            Command::Read => "read OUT        says which input slot output slot OUT takes",
-            Command::Drop => "drop            drops the staged map",
-            Command::Record =>
-                "record K A B H  sends a host record by its octets, up to eight: kind, A, B, host",
-            Command::Boundary =>
-                "boundary        is a multiframe boundary: the waiting map becomes the live one",
-            Command::Map => "map             shows the live map: what output slots 1 to 31 take",
-            Command::Status =>
-                "status          shows the key, and the live, the staged and the waiting map",
-            Command::Picture => "picture FILE    draws the live map into FILE, as SVG",
-            Command::Help => "help            shows these lines",
-            Command::Quit => "quit            ends",
-            Command::Exit => "exit            ends, too",
-        }
+        HELP.lines().nth(self as usize).unwrap_or("")
     }
 
     // the one with this word
     fn named(word: &[u8]) -> Option<Command> {
-        COMMANDS
-            .into_iter()
-            .find(|command| first_word(command.help().as_bytes()).0 == word)
+        let k = HELP
+            .lines()
+            .position(|line| first_word(line.as_bytes()).0 == word)?;
+        COMMANDS.get(k).copied()
     }
 }
 

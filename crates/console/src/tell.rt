@@ -2,7 +2,7 @@
 ghost use Rattle.std.specs.Prelude.{◌≤◌, length};
 
 use crate::CONSOLE;
-use crate::parse::{Asked, COMMANDS, COMMIT, READ, STAGE, Shown, Wrong, second_word};
+use crate::parse::{Asked, COMMIT, HELP, READ, STAGE, Shown, Wrong, second_word};
 use base::Refused;
 use exchange::State;
 use program::Printed;
@@ -91,12 +91,7 @@ fn show(rt: &impl Print, state: &State, what: Shown) -> Printed {
     match what {
         Shown::Map => row(rt, "map", &state.live[1..]),
         Shown::Status => status(rt, state),
-        Shown::Help => {
-            for command in COMMANDS {
-                rt.println(command.help())?;
-            }
-            Ok(())
-        }
+        Shown::Help => rt.write_all(HELP.as_bytes()),
     }
 }
 

@@ -9,7 +9,9 @@ ghost use Rattle.std.specs.Prelude.{◌<◌, ◌≤◌};
 ghost use Rattle.hits.specs.Verdict.{numbers_of};
 
 use judge::{Form, Verdict};
-use program::{Kind, Printed, Program};
+use program::{Kind, Program};
+use std::fmt;
+use std::fmt::{Display, Formatter};
 use std::rt::Env;
 
 const HITS: Program<'static> = Program {
@@ -17,40 +19,47 @@ const HITS: Program<'static> = Program {
     kind: Kind::E1,
 };
 
-// two hits on bits of one block
+// two hits on bits of one block, so far apart, and whether the check sees them
 #[derive(Clone, Copy)]
 struct Hits {
     form: Form,
     a: usize,
     b: usize,
+    apart: usize,
+    is_seen: bool,
     ghost inside: { (a < (numbers_of form).bits) × (b < (numbers_of form).bits) },
 }
 
-impl Hits {
-    // what both bits add to the check, behind what is said of them
-    fn print_shares(self, rt: &impl Print) -> Printed {
-        let Hits { form, a, b } = self;
+// the same in words, and what each of the bits adds to the check
+impl Display for Hits {
+    fn fmt<W: fmt::Write>(&self, f: &mut Formatter<W>) -> fmt::Result {
+        let Hits {
+            form,
+            a,
+            b,
+            apart,
+            is_seen,
+        } = *self;
+        let order = form.order();
+        if is_seen {
+            writeln!(f, "seen: {apart} apart, no multiple of {order}")?;
+        } else {
+            let times = apart / order;
+            writeln!(f, "unseen: {apart} apart, {times} times {order}")?;
+        }
         let width = form.width();
         let first = form.share(a);
         let second = form.share(b);
         let both = first ^ second;
-        println!(rt; "bit {a} adds {first:0width$b} to the check")?;
-        println!(rt; "bit {b} adds {second:0width$b} to the check")?;
-        println!(rt; "together they add {both:0width$b}")
+        writeln!(f, "bit {a} adds {first:0width$b} to the check")?;
+        writeln!(f, "bit {b} adds {second:0width$b} to the check")?;
+        writeln!(f, "together they add {both:0width$b}")
     }
+}
 
-    fn print_hidden(self, rt: &impl Print, apart: usize) -> Printed {
-        let order = self.form.order();
-        let times = apart / order;
-        println!(rt; "unseen: {apart} apart, {times} times {order}")?;
-        self.print_shares(rt)
-    }
-
-    fn print_seen(self, rt: &impl Print, apart: usize) -> Printed {
-        let order = self.form.order();
-        println!(rt; "seen: {apart} apart, no multiple of {order}")?;
-        self.print_shares(rt)
-    }
+// printed at once: each print has a buffer of its own on the stack
+fn tell(rt: &impl Print, hits: Hits) {
+    HITS.written(rt.print(hits));
 }
 
 fn say_outside(form: Form) {
@@ -82,8 +91,32 @@ fn answer(rt: &impl Print, form: Form, a: usize, b: usize) {
         Verdict::Outside => say_outside(form),
         Verdict::NoData { bit } => say_no_data(form, bit),
         Verdict::OneBit { bit } => say_one_bit(bit),
-        Verdict::Hidden { apart } => HITS.written(Hits { form, a, b }.print_hidden(rt, apart)),
-        Verdict::Seen { apart } => HITS.written(Hits { form, a, b }.print_seen(rt, apart)),
+        Verdict::Hidden { apart } => {
+            let is_seen = false;
+            tell(
+                rt,
+                Hits {
+                    form,
+                    a,
+                    b,
+                    apart,
+                    is_seen,
+                },
+            );
+        }
+        Verdict::Seen { apart } => {
+            let is_seen = true;
+            tell(
+                rt,
+                Hits {
+                    form,
+                    a,
+                    b,
+                    apart,
+                    is_seen,
+                },
+            );
+        }
     }
 }
 
@@ -111,9 +144,7 @@ fn ask(rt: &(impl Env + Print), form: Form, at: usize)
 }
 
 fn main(rt: HostRuntime) {
-    if program::is_first(&rt, b"--t1") {
-        ask(&rt, Form::T1, 2);
-        return;
-    }
-    ask(&rt, Form::E1, 1);
+    let is_t1 = program::is_first(&rt, b"--t1");
+    let form = if is_t1 { Form::T1 } else { Form::E1 };
+    ask(&rt, form, if is_t1 { 2 } else { 1 });
 }

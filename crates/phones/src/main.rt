@@ -2,11 +2,11 @@
 // change. With `--table`, before the file, it prints all of them.
 #![tactic(auto)]
 
-ghost use Rattle.std.specs.Prelude.{◌≤◌};
-
 use printed::{Change, Values};
 use program::{Kind, Printed, Program};
 use signals::Signalling;
+use std::fmt;
+use std::fmt::{Display, Formatter};
 
 const PHONES: Program<'static> = Program {
     name: "phones",
@@ -21,6 +21,8 @@ struct Rows<'a> {
 }
 
 // those that change
+// Each function that prints stands by itself: a print has a buffer of its own, and compiled into one place they add up.
+#[inline(never)]
 fn print_changes(rt: &impl Print, rows: Rows, f: usize) -> Printed {
     for (c, (was, is)) in rows.was.iter().zip(rows.is).enumerate() {
         let change = Change { was: *was, is: *is };
@@ -29,28 +31,50 @@ fn print_changes(rt: &impl Print, rows: Rows, f: usize) -> Printed {
     Ok(())
 }
 
-// ten channels from c on, counted from 0: their numbers, and their bits below, a star before them where they change
-fn print_ten(rt: &impl Print, rows: Rows, c: usize) -> Printed
-    requires { c ≤ 20 }
-{
-    print!(rt; "channel")?;
-    for k in 1..11 {
-        print!(rt; "{:>6}", c + k)?;
-    }
-    print!(rt; "\nABCD   ")?;
-    for (was, is) in rows.was.iter().zip(rows.is).skip(c).take(10) {
-        let star = if was == is { ' ' } else { '*' };
-        print!(rt; " {star}{is:04b}")?;
-    }
-    print!(rt; "\n")
+// ten channels behind so many others: their numbers, and their bits below, a star before them where they change
+#[derive(Clone, Copy)]
+struct Ten<'a> {
+    numbers: &'static str,
+    rows: Rows<'a>,
+    behind: usize,
 }
 
+impl Display for Ten<'_> {
+    fn fmt<W: fmt::Write>(&self, f: &mut Formatter<W>) -> fmt::Result {
+        let rows = self.rows;
+        write!(f, "channel{}\nABCD   ", self.numbers)?;
+        for (was, is) in rows.was.iter().zip(rows.is).skip(self.behind).take(10) {
+            let star = if was == is { ' ' } else { '*' };
+            write!(f, " {star}{is:04b}")?;
+        }
+        writeln!(f, "")
+    }
+}
+
+// all thirty, printed at once
+#[inline(never)]
 fn print_channels(rt: &impl Print, rows: Rows, f: usize) -> Printed {
-    println!(rt; "2 ms {}  frame {f}", f / 16)?;
-    print_ten(rt, rows, 0)?;
-    print_ten(rt, rows, 10)?;
-    print_ten(rt, rows, 20)?;
-    print!(rt; "\n")
+    let first = Ten {
+        numbers: "     1     2     3     4     5     6     7     8     9    10",
+        rows,
+        behind: 0,
+    };
+    let second = Ten {
+        numbers: "    11    12    13    14    15    16    17    18    19    20",
+        rows,
+        behind: 10,
+    };
+    let third = Ten {
+        numbers: "    21    22    23    24    25    26    27    28    29    30",
+        rows,
+        behind: 20,
+    };
+    println!(rt; "2 ms {}  frame {f}\n{first}{second}{third}", f / 16)
+}
+
+#[inline(never)]
+fn print_values(rt: &impl Print, s: &Signalling) -> Printed {
+    rt.print(Values(*s))
 }
 
 // The signalling multiframes that are read, no more than 15. The first has none before it, and changes nothing.
@@ -65,7 +89,7 @@ fn print_abcd(rt: &impl Print, abcd: &[u8; 450], s: &Signalling, is_table: bool)
         }
         was = is;
     }
-    print!(rt; "{}", Values(*s))
+    print_values(rt, s)
 }
 
 // what the telephones say, or the refusal: its number is printed, and said in words on standard error

@@ -174,11 +174,14 @@ impl<'a> Program<'a> {
         ensures { IfSome result (λ n. IsPrefixLen n room.new) }
     {
         let mut path = io::buffer();
-        let Input { mut source, n } = self.open(rt, at, &mut path)?;
-        match take(&mut source, room) {
+        // by `?` the open input, which has a window of 8,192 octets, would stand once more on the stack
+        let Some(mut input) = self.open(rt, at, &mut path) else {
+            return None;
+        };
+        match take(&mut input.source, room) {
             Ok(taken) => Some(taken),
             Err(why) => {
-                self.fail(&path[..n], why);
+                self.fail(&path[..input.n], why);
                 None
             }
         }
