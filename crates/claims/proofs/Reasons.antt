@@ -83,6 +83,7 @@ reasons =
       one_holds = λ s p t. (judged s p, (says s p (judged s p) t).0 (why_judged s p ((why_is s p).1 t)));
       never_two = λ s p v w t hv hw. same_said v w (sym ((says s p v t).1 hv) ∙ (says s p w t).1 hw);
       stands = stands;
+      numbered = why_answers;
       short = why_short;
       long = why_long;
       late = λ s p good. why_late s p good.long good.short;

@@ -2,7 +2,7 @@
 use Rattle.std.specs.Prelude.{ℕ, ◌+◌, ◌*◌, ◌<◌, ◌≡◌, List, ◌↔◌, ◌⊎◌, Ok, Err, length}
 use Rattle.base.specs.declared.Refused.TheVariants.{TooShort, TooLong, Place}
 use Rattle.align.specs.Stands.{Stands}
-use Rattle.align.specs.Why.{why}
+use Rattle.align.specs.Why.{why, why_number, why_refusal}
 use Rattle.align.specs.Says.{Says}
 use Rattle.align.specs.declared.Why.{Why}
 use Rattle.align.specs.declared.Why.TheVariants.{NoneFails, NoPair}
@@ -25,7 +25,8 @@ pub record Reasons : Type 0 where
   pub never_two : (s : List ℕ) (p : ℕ) (v w : Why) → ToAsk s p → Says s p v → Says s p w → v ≡ w
   -- that a place stands with k is said of it exactly when it does and k is its least; of one without room it is not
   pub stands : (s : List ℕ) (p k : ℕ) → GoodLength s → why s p ≡ Ok (NoneFails k) ↔ Stands s p k
-  -- the refusals, the image's size first
+  -- the refusals, the image's size first; their table says them of what is answered
+  pub numbered : (s : List ℕ) (p : ℕ) → why_number (why s p) ≡ why_refusal s p
   pub short : (s : List ℕ) (p : ℕ) → why s p ≡ Err TooShort ↔ length s < 2048
   pub long : (s : List ℕ) (p : ℕ) → why s p ≡ Err TooLong ↔ 8192 < length s
   pub late : (s : List ℕ) (p : ℕ) → GoodLength s → why s p ≡ Err Place ↔ 8 * length s < p + 16384

@@ -5,7 +5,7 @@ use Rattle.heard.specs.Hearing.{Few}
 use Rattle.heard.specs.declared.Hearing.{Hearing}
 use Rattle.watch.specs.Watch.{Adds}
 
-few_within : (h : Hearing) (k n : ℕ) → k ≤ n → Few h k → Few h n
+pub few_within : (h : Hearing) (k n : ℕ) → k ≤ n → Few h k → Few h n
 few_within h k n l few =
     record {
       frames = omega (arith, few.frames);
@@ -13,6 +13,9 @@ few_within h k n l few =
       multiframes = omega (arith, few.multiframes);
       losses = omega (arith, few.losses);
     }
+
+pub adds_none : (h : Hearing) → Adds 0 h h
+adds_none h k few = few_within h k (k + 0) (omega arith) few
 
 pub adds_within : (h h' : Hearing) (m n : ℕ) → m ≤ n → Adds m h h' → Adds n h h'
 adds_within h h' m n l adds k few = few_within h' (k + m) (k + n) (omega arith) (adds k few)
