@@ -124,7 +124,7 @@ fn answer(rt: &impl Print, form: Form, a: usize, b: usize) {
 fn bits(rt: &impl Env, at: usize) -> Option<(usize, usize)>
     requires { at ≤ 2 }
 {
-    if program::is_given(rt, at + 2) {
+    if !program::is_given(rt, at + 1) || program::is_given(rt, at + 2) {
         return None;
     }
     let a = program::argument(rt, at)?;
